@@ -1,0 +1,4 @@
+pub mod Ring
+pub mod SumLaws
+pub mod Floors
+pub mod Verdicts

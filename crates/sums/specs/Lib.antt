@@ -1,0 +1,4 @@
+pub mod Sums
+pub mod Floor
+pub mod Verdict
+pub mod Laws
