@@ -2,3 +2,4 @@ pub mod Ring
 pub mod SumLaws
 pub mod Floors
 pub mod Verdicts
+pub mod Tables

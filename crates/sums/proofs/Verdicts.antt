@@ -10,7 +10,8 @@ use lib.ListN.{getD, length, drop}
 use Rattle.std.proofs.shelf.Lists.{drop-more, at-drop-all}
 use Rattle.std.specs.declared.result.Result.{Result}
 use Rattle.std.specs.declared.result.Result.the-variants.{Ok, Err}
-use Rattle.sums.specs.Verdict.{Verdict, accept, _then_, want, every, scan, scan-one}
+use Rattle.std.proofs.shelf.Tests.{true≢false}
+use Rattle.sums.specs.Verdict.{Verdict, accept, accepts, _then_, want, every, scan, scan-one}
 use Rattle.sums.specs.Laws.{First-failure-told}
 
 module _ {F : Type 0} where
@@ -24,6 +25,10 @@ module _ {F : Type 0} where
   pub wanted : (b : Bool) (f : F) → want b f ≡ accept → b ≡ true
   wanted true f e = refl
   wanted false f e = never f e
+
+  pub accepts-is : (v : Verdict F) → accepts v ≡ true → v ≡ accept
+  accepts-is (Ok u) t = refl
+  accepts-is (Err f) t = absurd (true≢false (sym t))
 
   pub stop : (v w : Verdict F) (f : F) → v ≡ Err f → (v then w) ≡ Err f
   stop v w f e = ap (λ u. u then w) e

@@ -1,0 +1,4 @@
+pub mod Market
+pub mod Fixed
+pub mod Tree
+pub mod Loaded
