@@ -1,0 +1,3 @@
+pub mod Costs
+pub mod Better
+pub mod Beyond
