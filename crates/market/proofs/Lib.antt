@@ -1,3 +1,4 @@
 pub mod Costs
 pub mod Better
 pub mod Beyond
+pub mod Tallying

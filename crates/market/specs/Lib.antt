@@ -1,3 +1,4 @@
 pub mod Prices
 pub mod Tables
 pub mod Laws
+pub mod Totals

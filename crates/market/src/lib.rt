@@ -5,11 +5,15 @@ ghost use Rattle.maps.specs.Market.{Market};
 ghost use Rattle.market.specs.Laws.{Better-never-cheaper, Cost-is-earned};
 
 mod prices;
+mod quantity;
 mod reserves;
 
 pub use crate::prices::ProductPrices;
 pub use crate::prices::clearing_price;
 pub use crate::prices::clearing_prices;
+pub use crate::quantity::Placed;
+pub use crate::quantity::Scheduled;
+pub use crate::quantity::quantities;
 pub use crate::reserves::Reserves;
 use maps::LocationMap;
 

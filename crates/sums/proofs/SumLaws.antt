@@ -6,6 +6,7 @@ use Prim.Native.Nat.{ℕ, zero, suc, _+_, _*_, _≤_}
 use lib.IntN.{ℤ, pos, negsuc, _+ℤ_, _-ℤ_, _*ℤ_, negℤ, *ℤ-zero, zero-*ℤ}
 use native.Mathlib.Omega.{arith}
 use native.Mathlib.Numerals.{add-one}
+use native.Mathlib.Nat.{suc-mul}
 use borrow.Author.Differences.{ints}
 use Rattle.std.specs.shelf.Lists.{sumBy}
 use Rattle.std.proofs.shelf.Sums.{sumBy-cons}
@@ -85,6 +86,12 @@ upto-more f n = rw add-one (sumBy-cons f n (upto n) ∙ omega arith)
 pub upto-none : (f : ℕ → ℕ) (n : ℕ) → ((k : ℕ) → f k ≡ 0) → sumBy f (upto n) ≡ 0
 upto-none f zero h = refl
 upto-none f (suc n) h = omega (arith, sumBy-cons f n (upto n), h n, upto-none f n h)
+
+-- n terms of at most b, where n is at most c
+pub upto-at-most : (f : ℕ → ℕ) (n c b : ℕ) → n ≤ c → ((k : ℕ) → f k ≤ b) → sumBy f (upto n) ≤ c * b
+upto-at-most f zero c b h g = omega arith
+upto-at-most f (suc n) zero b h g = absurd (omega arith)
+upto-at-most f (suc n) (suc c) b h g = omega (arith, sumBy-cons f n (upto n), upto-at-most f n c b (omega arith) g, g n, suc-mul c b)
 
 pub sumBy-mono : {X : Type 0} (f g : X → ℕ) → ((x : X) → f x ≤ g x) → (xs : List X) → sumBy f xs ≤ sumBy g xs
 sumBy-mono f g h [] = omega arith

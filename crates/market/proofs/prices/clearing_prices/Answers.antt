@@ -16,8 +16,9 @@ returns g c =
     let law = g .M·LocationMap·met .lawful (c .args .map .now) in
     let better = better-never-cheaper m law in
     let value : (l : ℕ) → getD (c .loop-l .table) l no-prices ≡ prices-at m (c .args .shadow-prices .now) l = λ l. elim (cases-lt l (c .loop-l .l)) [
-        inl h ↦ c .loop-l .inv .1 l h
-      | inr h ↦ c .loop-l .inv .2 l h ∙ prices-beyond m law (c .args .shadow-prices .now) l (omega arith) ] in
+      | inl h ↦ c .loop-l .inv .1 l h
+      | inr h ↦ c .loop-l .inv .2 l h ∙ prices-beyond m law (c .args .shadow-prices .now) l (omega arith)
+    ] in
     record {
       value = value;
       law = λ l. (omega (arith, ap (λ (x : ProductPrices). x .thirty) (value l), ap (λ (x : ProductPrices). x .ten) (value l), better .ten-thirty (c .args .shadow-prices .now) l), omega (arith, ap (λ (x : ProductPrices). x .spinning) (value l), ap (λ (x : ProductPrices). x .ten) (value l), better .spinning-ten (c .args .shadow-prices .now) l));
