@@ -12,7 +12,7 @@ use Rattle.std.proofs.shelf.Tests.{ltb-true, le-ltb, and-parts, and-left, and-r
 use Rattle.std.proofs.shelf.Ways.{tells}
 use Rattle.sums.specs.Verdict.{accept, accepts, every}
 use Rattle.sums.proofs.Tables.{same-all}
-use Rattle.sums.proofs.Verdicts.{every-held, accepts-is}
+use Rattle.sums.proofs.Verdicts.{every-held, accepted}
 use Rattle.maps.proofs.Trees.{loaded-lawful}
 use Rattle.maps.proofs.Loading.{same-market}
 use Rattle.maps.specs.declared.product.Product.{Product}
@@ -52,7 +52,7 @@ inside : (k : ℕ) (p : Product) (l : ℕ) → k < 15 → l < 5 → tree-counts 
 unfolding row cell
 inside k p l hk hl =
     let r : row p k ≡ true = every-held (row p) (λ k. k) 0 15 (table p) k (omega arith) (omega arith) in
-    alike-is _ _ (every-held (cell p k) (λ l. l) 0 5 (accepts-is _ r) l (omega arith) (omega arith))
+    alike-is _ _ (every-held (cell p k) (λ l. l) 0 5 (accepted _ r) l (omega arith) (omega arith))
 
 fixed-within : (k : ℕ) (p : Product) (l : ℕ) → fixed-counts k p l ≡ true → (k < 15) × (l < 5)
 fixed-within k ThirtyMinute l t = search needs

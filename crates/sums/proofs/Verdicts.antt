@@ -8,9 +8,9 @@ use native.Mathlib.Nat.{eq-or-lt-of-le}
 use native.Mathlib.Omega.{arith}
 use lib.ListN.{getD, length, drop}
 use Rattle.std.proofs.shelf.Lists.{drop-more, at-drop-all}
+use Rattle.std.proofs.shelf.Tests.{both-ways}
 use Rattle.std.specs.declared.result.Result.{Result}
 use Rattle.std.specs.declared.result.Result.the-variants.{Ok, Err}
-use Rattle.std.proofs.shelf.Tests.{true≢false}
 use Rattle.sums.specs.Verdict.{Verdict, accept, accepts, _then_, want, every, scan, scan-one}
 use Rattle.sums.specs.Laws.{First-failure-told}
 
@@ -26,15 +26,15 @@ module _ {F : Type 0} where
   wanted true f e = refl
   wanted false f e = never f e
 
-  pub accepts-is : (v : Verdict F) → accepts v ≡ true → v ≡ accept
-  accepts-is (Ok u) t = refl
-  accepts-is (Err f) t = absurd (true≢false (sym t))
-
   pub stop : (v w : Verdict F) (f : F) → v ≡ Err f → (v then w) ≡ Err f
   stop v w f e = ap (λ u. u then w) e
 
   pub pass : (v w : Verdict F) → v ≡ accept → (v then w) ≡ w
   pass v w e = ap (λ u. u then w) e
+
+  pub accepted : (v : Verdict F) → accepts v ≡ true → v ≡ accept
+  accepted (Ok u) e = refl
+  accepted (Err f) e = absurd (both-ways false refl e)
 
 -- ---- numbers from k on: the loop's invariant is `every ok f i (n - i) ≡ every ok f 0 n`
 module _ {F : Type 0} (ok : ℕ → Bool) (f : ℕ → F) where
@@ -71,6 +71,22 @@ module _ {F : Type 0} (ok : ℕ → Bool) (f : ℕ → F) where
         | inl e ↦ (let z : ok k ≡ false = rw e q in rw z (ap (λ (j : ℕ). Err (f j)) e))
         | inr s ↦ (let t : ok k ≡ true = before k (omega arith) s in rw t (every-first (k + 1) n i (omega arith) (omega arith) (λ j a b. before j (omega arith) b) q))
       ]
+
+-- two tests that agree up to a number at which both fail refuse alike, however many numbers follow
+pub every-cut : {F : Type 0} (p q : ℕ → Bool) (f : ℕ → F) (k d n m : ℕ) → d < n → d < m
+    → ((i : ℕ) → k ≤ i → i < k + d → p i ≡ q i) → p (k + d) ≡ false → q (k + d) ≡ false → every p f k n ≡ every q f k m
+every-cut p q f k d zero m h l same a b = absurd (omega arith)
+every-cut p q f k d (suc n) zero h l same a b = absurd (omega arith)
+every-cut p q f k zero (suc n) (suc m) h l same a b =
+    let e : k + 0 ≡ k = omega arith in
+    let a′ : p k ≡ false = rw e at a in
+    let b′ : q k ≡ false = rw e at b in
+    rw (a′, b′)
+every-cut p q f k (suc d) (suc n) (suc m) h l same a b =
+    let e : k + suc d ≡ k + 1 + d = omega arith in
+    let here : p k ≡ q k = same k (omega arith) (omega arith) in
+    let rest = every-cut p q f (k + 1) d n m (omega arith) (omega arith) (λ i u v. same i (omega arith) (omega arith)) (rw e at a) (rw e at b) in
+    rw (here, rest)
 
 pub first-failure-told : (F : Type 0) → First-failure-told F
 first-failure-told F ok f n = (

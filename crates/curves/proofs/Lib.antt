@@ -1,0 +1,4 @@
+pub mod Judging
+pub mod Values
+pub mod Copies
+pub mod Books

@@ -1,0 +1,4 @@
+pub mod Counts
+pub mod Seen
+pub mod Chain
+pub mod Accepted
