@@ -1,4 +1,5 @@
 pub mod Prices
 pub mod Tables
+pub mod Claims
 pub mod Laws
 pub mod Totals

@@ -4,10 +4,14 @@ ghost use Prim.Native.Nat.{ℕ};
 ghost use Rattle.maps.specs.Market.{Market};
 ghost use Rattle.market.specs.Laws.{Better-never-cheaper, Cost-is-earned};
 
+mod claims;
 mod prices;
 mod quantity;
 mod reserves;
 
+pub use crate::claims::MOST_SHADOW_PRICE;
+pub use crate::claims::MOST_TARGET;
+pub use crate::claims::check_prices;
 pub use crate::prices::ProductPrices;
 pub use crate::prices::clearing_price;
 pub use crate::prices::clearing_prices;
