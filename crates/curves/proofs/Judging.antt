@@ -1,23 +1,22 @@
 -- What accepted steps are like.
-use mathlib.Core.Path.{_≡_, refl, sym, _∙_, ap}
-use mathlib.Core.Bool.{Bool, true, false, _&&_}
+use mathlib.Core.Path.{_≡_, refl}
+use mathlib.Core.Bool.{true, _&&_}
 use mathlib.Core.Logic.{inl, inr}
 use mathlib.Core.List.{List, [], _∷_}
-use Prim.Native.Nat.{ℕ, zero, suc, _+_, _-_, _≤_, _<_}
+use Prim.Native.Nat.{ℕ, zero, suc, _+_, _≤_, _<_}
 use native.Mathlib.Numerals.{add-one}
 use native.Mathlib.Omega.{arith}
-use lib.Dec.{ltb, leb, eqb}
+use lib.Dec.{ltb}
 use lib.ListN.{length, getD, take}
 use Rattle.std.proofs.shelf.Lists.{take-all, getD-take, length-take-le}
 use Rattle.std.proofs.shelf.Tests.{cases-lt}
 use Rattle.std.proofs.shelf.Ways.{tells}
 use Rattle.faults.specs.declared.fault.Fault.{Fault}
 use Rattle.faults.specs.declared.fault.Fault.the-variants.{CurveSteps}
-use Rattle.std.specs.declared.result.Result.the-variants.{Ok, Err}
-use Rattle.sums.specs.Verdict.{Verdict, accept, accepts, every}
+use Rattle.sums.specs.Verdict.{accept, accepts}
 use Rattle.sums.proofs.Verdicts.{accepted, every-held, every-cut, first-failure-told}
 use Rattle.curves.specs.declared.step.Step.{Step}
-use Rattle.curves.specs.Steps.{most-steps, most-margin, most-price, no-step, step-ok, falls, curve-verdict, IsCurve}
+use Rattle.curves.specs.Steps.{most-steps, no-step, step-ok, falls, curve-verdict, IsCurve}
 
 falls-next : (ss : List Step) (i : ℕ)
     → falls ss (i + 1)

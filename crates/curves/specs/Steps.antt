@@ -10,6 +10,7 @@ use Rattle.faults.specs.declared.fault.Fault.the-variants.{CurveSteps}
 use Rattle.sums.specs.Verdict.{Verdict, accept, every}
 use Rattle.curves.specs.declared.step.Step.{Step}
 
+-- the limits on a curve's steps, a step's margin and price, and a book's curves
 abbrev pub most-steps : ℕ
 most-steps = 8
 

@@ -31,11 +31,11 @@ first-step bs (suc k) = first-step bs k + step-count bs k
 abbrev pub file-steps : List ℕ → ℕ
 file-steps bs = first-step bs (file-count bs)
 
--- how long the file should be
+-- how long the file should be: two bytes for each count, four for each margin and each price
 abbrev pub file-length : List ℕ → ℕ
 file-length bs = 2 + 2 * file-count bs + 8 * file-steps bs
 
--- step j of the file
+-- step j of the file, counted over all curves
 abbrev pub step-in : List ℕ → ℕ → Step
 step-in bs j = record {
   margin = le32 bs (2 + 2 * file-count bs + 4 * j);
@@ -56,7 +56,7 @@ length-verdict bs =
     want (leb 2 (length bs)) (CurveSteps 0 0)
     then (book-verdict (file-count bs) then want (eqb (length bs) (file-length bs)) (CurveSteps (file-count bs) 0))
 
--- whether the curves, counted from k on, are such; if not, the first wrong step of the first wrong curve is told
+-- whether the steps make curves, numbered from k on; if not, the first wrong step of the first wrong curve is told
 abbrev pub curves-verdict : ℕ → List (List Step) → Verdict Fault
 curves-verdict k [] = accept
 curves-verdict k (ss ∷ rest) = curve-verdict k ss then curves-verdict (k + 1) rest
