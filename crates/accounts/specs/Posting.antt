@@ -3,7 +3,7 @@ use mathlib.Core.Bool.{Bool, _&&_}
 use mathlib.Core.List.{List}
 use Prim.Native.Nat.{ℕ}
 use lib.IntN.{ℤ, pos, _+ℤ_, _*ℤ_}
-use Rattle.sums.specs.Floor.{floor, remainder}
+use Rattle.sharing.specs.Shares.{whole, rest}
 use Rattle.maps.specs.Market.{Market}
 use Rattle.market.specs.declared.reserves.Reserves.{Reserves}
 use Rattle.market.specs.Prices.{none-reserved, worth, amounts, over}
@@ -11,17 +11,6 @@ use Rattle.accounts.specs.declared.supplier.Supplier.{Supplier}
 use Rattle.accounts.specs.declared.customer.Customer.{Customer}
 use Rattle.accounts.specs.declared.schedule.ScheduleRow.{ScheduleRow}
 use Rattle.accounts.specs.Ranges.{supplier-fits, customer-fits}
-
--- a grain is a cent divided by 36,000: one cent per MW and hour, times a tenth of a MW, times one second
-abbrev pub grains-per-cent : ℕ
-grains-per-cent = 36000
-
--- whole cents of a number of grains, rounded toward minus infinity, and the grains that remain
-abbrev pub whole : ℤ → ℤ
-whole z = floor z grains-per-cent
-
-abbrev pub rest : ℤ → ℕ
-rest z = remainder z grains-per-cent
 
 -- the account with other grains and another day-ahead schedule for the hour in hand
 abbrev pub with-hour : Supplier → ℤ → Reserves → Supplier

@@ -1,0 +1,6 @@
+pub mod Ranges
+pub mod Rules
+pub mod Totals
+pub mod Law
+pub mod Padded
+pub mod Made
