@@ -8,7 +8,6 @@ ghost use Rattle.faults.specs.Told.{tells, told-of};
 ghost use Rattle.std.specs.declared.option.Option.the-variants.{Some, None};
 
 mod fault;
-pub mod text;
 
 pub use crate::fault::Fault;
 pub use crate::fault::Layer;

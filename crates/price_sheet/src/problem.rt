@@ -1,6 +1,7 @@
 //! Why no price sheet is printed.
+use fault_text::InWords;
+use fault_text::InWordsDisplay;
 use faults::Fault;
-use faults::text::FaultDisplay;
 use std::alloc::AllocError;
 use std::alloc::Refused;
 use std::fmt;
@@ -63,7 +64,8 @@ pub impl fmt::Display for Problem as ProblemDisplay {
             Problem::TooMany(line) => write!(f, "line {line}: there are only 15 requirements"),
             Problem::Refused(fault) => {
                 let number = fault.number();
-                write!(f, "refused by {number}: {fault}")
+                let words = InWords(*fault);
+                write!(f, "refused by {number}: {words}")
             }
             Problem::OutOfRange { line, requirement } => {
                 let shadow = requirement.saturating_add(1);

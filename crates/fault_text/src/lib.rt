@@ -1,23 +1,26 @@
-//! Faults in plain words, one line each.
-use crate::fault::Fault;
-use crate::fault::Layer;
+//! Faults in plain words, one line each. What is written is tested, not proved.
+use faults::Fault;
+use faults::Layer;
 use std::fmt;
 
-pub impl fmt::Display for Layer as LayerDisplay {
-    fn fmt<W: fmt::Write>(&self, f: &mut fmt::Formatter<W>) -> fmt::Result {
-        match self {
-            Layer::Feed => write!(f, "feed"),
-            Layer::Book => write!(f, "book"),
-            Layer::Sheet => write!(f, "sheet"),
-            Layer::Hour => write!(f, "hour"),
-            Layer::Table => write!(f, "table"),
-        }
+/// A fault to be shown in words: `{}` writes one line without its end.
+#[derive(Clone, Copy)]
+pub struct InWords(pub Fault);
+
+/// The name of a layer.
+pub fn layer_name(layer: Layer) -> &'static str {
+    match layer {
+        Layer::Feed => "feed",
+        Layer::Book => "book",
+        Layer::Sheet => "sheet",
+        Layer::Hour => "hour",
+        Layer::Table => "table",
     }
 }
 
-pub impl fmt::Display for Fault as FaultDisplay {
+pub impl fmt::Display for InWords as InWordsDisplay {
     fn fmt<W: fmt::Write>(&self, f: &mut fmt::Formatter<W>) -> fmt::Result {
-        match *self {
+        match self.0 {
             Fault::Truncated { offset } => write!(
                 f,
                 "the feed ends inside the record at offset {offset}"
