@@ -20,7 +20,7 @@ pub impl LocationMap for FixedMap as FixedLocationMap {
     }
 
     fn counts(&self, requirement: usize, product: Product, location: usize) -> bool {
-        if requirement >= 15 || location >= 5 {
+        if location >= 5 {
             return false;
         }
         // Three requirements a region: for each product, and what is better.

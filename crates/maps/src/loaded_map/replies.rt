@@ -10,6 +10,9 @@ use crate::loaded_map::LoadedMap;
 use crate::loaded_map::slots::count_wanted;
 use crate::loaded_map::slots::slot_of;
 
+/// The location that is its own parent, and an ancestor of all.
+const ROOT: usize = 0;
+
 impl LoadedMap {
     /// Whether `upper` is the location or an ancestor of it. Parents have smaller numbers, so this ends.
     fn is_at_or_above(&self, upper: usize, location: usize) -> bool
@@ -18,7 +21,7 @@ impl LoadedMap {
     {
         if upper == location {
             true
-        } else if location == 0 {
+        } else if location == ROOT {
             false
         } else {
             self.is_at_or_above(upper, self.parents[location])
