@@ -1,5 +1,10 @@
 pub mod Capability
 pub mod Enrolment
+pub mod Figures
+pub mod Laws
+pub mod Limits
+pub mod Outcomes
 pub mod Posting
 pub mod Ranges
+pub mod Terms
 pub mod Withdrawals

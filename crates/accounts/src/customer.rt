@@ -1,5 +1,5 @@
 //! Load customers.
-ghost use lib.IntN.{pos};
+ghost use Rattle.accounts.specs.Limits.{most-customers};
 use crate::account::Account;
 use crate::account::Numbered;
 use crate::withdrawal::WithdrawalNumbered;
@@ -24,7 +24,7 @@ pub impl Numbered for Customer as CustomerNumbered {
 pub impl Account for Customer as CustomerAccount {
     type Row = WithdrawalRow;
 
-    ghost most = { 256 };
+    ghost most = { most-customers };
 
     ghost money = { λ a. a .cents };
 

@@ -1,4 +1,5 @@
 //! Suppliers of reserve.
+ghost use Rattle.accounts.specs.Limits.{most-suppliers};
 use crate::account::Account;
 use crate::account::Numbered;
 use crate::schedule::ScheduleNumbered;
@@ -6,6 +7,9 @@ use crate::schedule::ScheduleRow;
 use market::Placed;
 use market::Reserves;
 use market::Scheduled;
+
+/// The most tenths, or tenths per minute, of a limit, a rate or a scheduled amount.
+pub(crate) const MOST_TENTHS: u32 = 30_000;
 
 /// Whether a supplier is synchronized to the grid, which decides what it can be scheduled for.
 #[derive(Clone, Copy)]
@@ -45,7 +49,7 @@ pub impl Numbered for Supplier as SupplierNumbered {
 pub impl Account for Supplier as SupplierAccount {
     type Row = ScheduleRow;
 
-    ghost most = { 128 };
+    ghost most = { most-suppliers };
 
     ghost money = { λ a. a .cents };
 

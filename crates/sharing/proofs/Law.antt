@@ -6,17 +6,18 @@ use Prim.Native.Nat.{ℕ, zero, suc, _+_, _*_, _≤_, _<_}
 use native.Mathlib.Omega.{arith}
 use lib.IntN.{ℤ, pos, negℤ, _+ℤ_, _-ℤ_, _*ℤ_}
 use lib.Signed.{_≤ℤ_, _<ℤ_}
-use lib.ListN.{length, getD, replicate, take}
+use lib.ListN.{length, getD, replicate}
 use borrow.Author.Differences.{ints}
 use Rattle.std.specs.shelf.Lists.{sum}
-use Rattle.std.proofs.shelf.Sums.{sumBy-cons, sumBy-take-le}
+use Rattle.std.proofs.shelf.Sums.{sumBy-cons}
 use Rattle.std.proofs.shelf.Signed.{by-ltZ}
 use Rattle.sums.specs.Floor.{floor}
 use Rattle.sums.proofs.Ring.{distr-l, neg-r}
 use Rattle.sums.proofs.Floors.{floor-divides, floor-at-most, floor-above, times-mono, times-cancel}
 use Rattle.sharing.specs.Rule.{Rule, In-range, Shareable, Fair}
-use Rattle.sharing.specs.Shares.{grains-per-cent, whole, rest, shares, shared, total, new-carry, ceiling, Rounded, Well-shared, Sharing-law}
-use Rattle.sharing.proofs.Totals.{times-one, shared-most, shared-least}
+use Rattle.sharing.specs.Shares.{grains-per-cent, whole, rest, shares, shared, total, new-carry, ceiling, Rounded, Sharing-law}
+use Rattle.sharing.proofs.Totals.{times-one, floor-none, shared-most, shared-least}
+use Rattle.sharing.proofs.Rules.{cases-shareable}
 
 pub length-shares : (r : Rule) (T : ℤ) (B W : ℕ) (ws : List ℕ) → length (shares r T B W ws) ≡ length ws
 length-shares r T B W [] = refl
@@ -81,6 +82,18 @@ module _ (r : Rule) (fair : Fair r) where
   none-shared T B W [] out = refl
   none-shared T B W (w ∷ ws) out = cc (fair .outside T B w W (λ s. out (s .ranged)), none-shared T (B + w) W ws out)
 
+  -- a part of nothing has no share
+  nothing : (T : ℤ) (B W : ℕ) → r T B 0 W ≡ pos 0
+  nothing T B W = elim (cases-shareable T B 0 W) [
+    | inl s ↦ (
+        let e : B + 0 ≡ B = omega arith in
+        same _ _ _ _ (floor-none T W) (ap (λ (n : ℕ). floor (T *ℤ pos n) W) e) (fair .not-under T B 0 W s) (fair .not-over T B 0 W s))
+    | inr out ↦ fair .outside T B 0 W out
+  ]
+    where
+      same : (z f x y : ℤ) → f ≡ pos 0 → x ≡ y → f ≤ℤ z → z ≤ℤ (x -ℤ y) → z ≡ pos 0
+      same z f x y e d h k = omega (arith, ints)
+
 -- ---- the carry
 -- what is shared and what is carried on is all there was
 pub kept : (G : ℤ) (zs : List ℤ) → pos grains-per-cent *ℤ total zs +ℤ new-carry G zs ≡ G
@@ -106,6 +119,7 @@ carry-none G zs e = lin G (total zs) (new-carry G zs) e (kept G zs)
 -- ---- together
 pub sharing-law : (r : Rule) → Fair r → Sharing-law r
 sharing-law r fair = record {
+  none = nothing r fair;
   inside = λ G ws g.
       let high = shared-most r fair (whole G) (sum ws) g ws refl in
       let low = shared-least r fair (whole G) (sum ws) g ws refl in

@@ -4,3 +4,4 @@ pub mod Totals
 pub mod Law
 pub mod Padded
 pub mod Made
+pub mod Extremes

@@ -1,9 +1,8 @@
 -- What sharing out makes is what its contract says.
-use mathlib.Core.Path.{_≡_, refl, sym, _∙_, ap, subst}
-use mathlib.Core.List.{List, [], _∷_, _++_}
-use mathlib.Core.Bool.{true, false}
-use mathlib.Core.Logic.{_⊎_, inl, inr}
-use Prim.Native.Nat.{ℕ, _+_, _-_, _*_, _≤_, _<_}
+use mathlib.Core.Path.{_≡_, sym, _∙_, ap, subst}
+use mathlib.Core.List.{List}
+use mathlib.Core.Logic.{inl, inr}
+use Prim.Native.Nat.{ℕ, _-_, _*_, _≤_}
 use native.Mathlib.Omega.{arith}
 use lib.IntN.{ℤ, pos, _+ℤ_, _*ℤ_}
 use lib.Signed.{_≤ℤ_, _<ℤ_}
@@ -16,7 +15,7 @@ use Rattle.std.proofs.shelf.Signed.{ints}
 use Rattle.std.proofs.shelf.Tests.{cases-bool, both-ways}
 use Rattle.sums.proofs.SumLaws.{sum-append}
 use Rattle.sums.proofs.Tables.{same-all}
-use Rattle.sharing.specs.Rule.{Rule, In-range, in-range, Fair}
+use Rattle.sharing.specs.Rule.{Rule, in-range, Fair}
 use Rattle.sharing.specs.Shares.{grains-per-cent, whole, shares, shared, total, new-carry, Well-shared}
 use Rattle.sharing.specs.SharedOut.{most-shares, padded, Shared-out}
 use Rattle.sharing.proofs.Rules.{in-range-true, true-in-range}
@@ -40,8 +39,9 @@ padded-total zs = sum-append (λ z. z) zs (replicate (most-shares - length zs) (
     lin x y e = omega (arith, ints)
 
 -- ---- the carry
-carry-same : (G : ℤ) (ys zs : List ℤ) → total ys ≡ total zs → new-carry G ys ≡ new-carry G zs
-carry-same G ys zs e = lin G (total ys) (total zs) (new-carry G ys) (new-carry G zs) e (kept G ys) (kept G zs)
+-- what the shares leave is the new carry
+carry-is : (G k : ℤ) (ys zs : List ℤ) → total ys ≡ total zs → pos grains-per-cent *ℤ total ys +ℤ k ≡ G → k ≡ new-carry G zs
+carry-is G k ys zs e q = lin G (total ys) (total zs) k (new-carry G zs) e q (kept G zs)
   where
     lin : (g s t j k : ℤ) → s ≡ t → pos grains-per-cent *ℤ s +ℤ j ≡ g → pos grains-per-cent *ℤ t +ℤ k ≡ g → j ≡ k
     lin g s t j k e p q = omega (arith, ints)
@@ -58,23 +58,22 @@ carry-fits r fair G ws f h = elim (cases-bool (in-range (whole G) (sum ws))) [
 
 -- ---- all together
 pub made : (r : Rule) → Fair r → (G : ℤ) (ws : List ℕ) → SFits w64 G → length ws ≤ most-shares
-    → (T : ℤ) → T ≡ whole G → (vs : List ℕ) → vs ≡ ws
-    → (zs : List ℤ) → zs ≡ padded (shares r T 0 (sum vs) vs) → (k : ℤ) → k ≡ new-carry G zs
+    → (T : ℤ) → T ≡ whole G
+    → (zs : List ℤ) → zs ≡ padded (shares r T 0 (sum ws) ws) → (k : ℤ) → pos grains-per-cent *ℤ total zs +ℤ k ≡ G
     → Shared-out r G ws (record { cents = zs; carry = k }) × SFits w64 k
-made r fair G ws f h T t vs v zs e k q =
+made r fair G ws f h T t zs e k q =
     let due : List ℤ = shared r G ws in
     let n : length due ≡ length ws = length-shares r (whole G) 0 (sum ws) ws in
-    let s : shares r T 0 (sum vs) vs ≡ due = ap (λ (x : ℤ). shares r x 0 (sum vs) vs) t ∙ ap (λ (xs : List ℕ). shares r (whole G) 0 (sum xs) xs) v in
-    let z : zs ≡ padded due = e ∙ ap padded s in
+    let z : zs ≡ padded due = e ∙ ap (λ (x : ℤ). padded (shares r x 0 (sum ws) ws)) t in
     let value : take (length ws) zs ≡ due = ap (take (length ws)) z ∙ padded-value due (length ws) n in
-    let c : k ≡ new-carry G due = q ∙ carry-same G zs due (ap total z ∙ padded-total due) in (
+    let c : k ≡ new-carry G due = carry-is G k zs due (ap total z ∙ padded-total due) q in (
       record {
         room = ap length z ∙ padded-room due (length ws) n h;
         value = value;
         past = λ i l. ap (λ (l : List ℤ). getD l i (pos 0)) z ∙ padded-past due (length ws) n i l;
         carry = c;
         law = λ g. subst (λ (l : List ℤ). Well-shared G ws l k) (sym value) (subst (Well-shared G ws due) (sym c) (sharing-law r fair .inside G ws g));
-        kept = ap (λ (x : ℤ). pos grains-per-cent *ℤ total zs +ℤ x) q ∙ kept G zs;
+        kept = q;
       },
       subst (SFits w64) (sym c) (carry-fits r fair G ws f h),
     )

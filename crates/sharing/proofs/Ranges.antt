@@ -1,5 +1,5 @@
 -- What the ranges of a rule bound: products, and shares rounded down.
-use mathlib.Core.Path.{_≡_, refl, sym, _∙_}
+use mathlib.Core.Path.{_≡_, refl, sym}
 use Prim.Native.Nat.{ℕ, _+_, _*_, _≤_, _<_}
 use native.Mathlib.Omega.{arith}
 use lib.IntN.{ℤ, pos, negsuc, negℤ, _+ℤ_, _*ℤ_, *ℤ-comm}
@@ -7,7 +7,6 @@ use lib.Signed.{_≤ℤ_, _<ℤ_}
 use borrow.Author.Differences.{ints}
 use mir.Val.{SFits}
 use mir.Syntax.{w64}
-use Rattle.std.specs.Numbers.{divEuclid}
 use Rattle.sums.specs.Floor.{floor}
 use Rattle.sums.proofs.Ring.{neg-r}
 use Rattle.sums.proofs.Floors.{floor-at-most, floor-above, times-mono, times-cancel}
@@ -50,8 +49,3 @@ floor-between T w W r h =
 
     ends : (f : ℤ) → negsuc most-cents <ℤ f → f <ℤ pos (most-cents + 1) → Between most-cents f
     ends f a b = (omega (arith, ints), omega (arith, ints))
-
--- how the library divides
-pub euclid-floor : (z : ℤ) (w : ℕ) → divEuclid z (pos w) ≡ floor z w
-euclid-floor (pos n) w = refl
-euclid-floor (negsuc n) w = refl

@@ -1,19 +1,17 @@
 -- The tests and the ranges, and the law of the two rules.
-use mathlib.Core.Path.{_≡_, refl, sym, _∙_, ap}
-use mathlib.Core.Bool.{Bool, true, false, _&&_}
+use mathlib.Core.Path.{_≡_, ap}
+use mathlib.Core.Bool.{true, false}
 use mathlib.Core.Logic.{_⊎_, inl, inr}
-use Prim.Native.Nat.{ℕ, _+_, _≤_, _<_}
+use Prim.Native.Nat.{ℕ, _+_, _<_}
 use native.Mathlib.Omega.{arith}
-use lib.Dec.{ltb, leb}
 use lib.IntN.{ℤ, pos, negℤ, _+ℤ_, _-ℤ_, _*ℤ_}
-use lib.Signed.{_≤ℤ_, leZ, leZ-yes, ≤ℤ-refl}
+use lib.Signed.{_≤ℤ_, leZ, ≤ℤ-refl}
 use borrow.Author.Differences.{ints}
 use Rattle.std.proofs.shelf.Tests.{lt-ltb, le-leb, ltb-true, leb-true, and-parts, cases-bool, both-ways}
-use Rattle.std.proofs.shelf.Ways.{tells}
 use Rattle.sums.specs.Floor.{floor}
 use Rattle.sums.proofs.Ring.{distr-l}
 use Rattle.sums.proofs.Floors.{floor-super}
-use Rattle.sharing.specs.Rule.{Rule, In-range, Shareable, in-range, shareable, most-cents, most-parts, Fair, down, running}
+use Rattle.sharing.specs.Rule.{In-range, Shareable, in-range, shareable, most-cents, most-parts, Fair, down, running}
 
 pub in-range-true : (T : ℤ) (W : ℕ) → In-range T W → in-range T W ≡ true
 in-range-true T W r =
@@ -41,10 +39,16 @@ true-shareable T B w W e =
     let a = and-parts _ _ e in
     record { ranged = true-in-range T W (a .0); within = leb-true (B + w) W (a .1) }
 
-not-shareable : (T : ℤ) (B w W : ℕ) → (Shareable T B w W → ⊥) → shareable T B w W ≡ false
+pub not-shareable : (T : ℤ) (B w W : ℕ) → (Shareable T B w W → ⊥) → shareable T B w W ≡ false
 not-shareable T B w W none = elim (cases-bool (shareable T B w W)) [
   | inl e ↦ absurd (none (true-shareable T B w W e))
   | inr e ↦ e
+]
+
+pub cases-shareable : (T : ℤ) (B w W : ℕ) → Shareable T B w W ⊎ (Shareable T B w W → ⊥)
+cases-shareable T B w W = elim (cases-bool (shareable T B w W)) [
+  | inl e ↦ inl (true-shareable T B w W e)
+  | inr e ↦ inr (λ s. both-ways _ e (shareable-true T B w W s))
 ]
 
 -- the two ends lie in order

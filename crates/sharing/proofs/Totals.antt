@@ -1,17 +1,17 @@
 -- What the law of a rule gives of all shares together.
 use mathlib.Core.Path.{_≡_, refl, sym, _∙_, ap}
 use mathlib.Core.List.{List, [], _∷_}
-use Prim.Native.Nat.{ℕ, zero, suc, _+_, _≤_, _<_}
+use Prim.Native.Nat.{ℕ, _+_, _≤_, _<_}
 use native.Mathlib.Omega.{arith}
 use lib.IntN.{ℤ, pos, _+ℤ_, _-ℤ_, _*ℤ_, *ℤ-zero, *ℤ-comm}
 use lib.Signed.{_≤ℤ_, _<ℤ_}
-use lib.ListN.{length, getD}
+use lib.ListN.{length}
 use borrow.Author.Differences.{ints}
 use Rattle.std.specs.shelf.Lists.{sum}
 use Rattle.std.proofs.shelf.Sums.{sumBy-cons}
 use Rattle.sums.specs.Floor.{floor}
 use Rattle.sums.proofs.Ring.{distr-l}
-use Rattle.sums.proofs.Floors.{floor-at-most, floor-above, floor-exact, times-mono, times-cancel}
+use Rattle.sums.proofs.Floors.{floor-above, floor-exact, times-mono, times-cancel}
 use Rattle.sharing.specs.Rule.{Rule, In-range, Shareable, Fair}
 use Rattle.sharing.specs.Shares.{shares, total}
 

@@ -1,3 +1,5 @@
 pub mod Rule
 pub mod Shares
 pub mod SharedOut
+pub mod Ends
+pub mod Figures

@@ -40,7 +40,8 @@ abbrev pub shareable : ℤ → ℕ → ℕ → ℕ → Bool
 shareable T B w W = in-range T W && leb (B + w) W
 
 -- ---- the law
--- at least the exact share rounded down, at most what the part adds to the rounded share of all parts up to it
+-- at least the exact share rounded down, at most what the part adds to the rounded share of the parts before it,
+-- and nothing outside the ranges
 pub record Fair (r : Rule) : Type 0 where
   pub not-under : (T : ℤ) (B w W : ℕ) → Shareable T B w W → (floor (T *ℤ pos w) W) ≤ℤ (r T B w W)
   pub not-over : (T : ℤ) (B w W : ℕ) → Shareable T B w W → (r T B w W) ≤ℤ (floor (T *ℤ pos (B + w)) W -ℤ floor (T *ℤ pos B) W)

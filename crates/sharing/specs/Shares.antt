@@ -9,7 +9,7 @@ use lib.ListN.{length, getD, replicate}
 use Rattle.std.specs.shelf.Lists.{sum}
 use Rattle.sums.specs.Floor.{floor, remainder}
 use Rattle.sums.specs.Sums.{sumZ}
-use Rattle.sharing.specs.Rule.{Rule, In-range, running}
+use Rattle.sharing.specs.Rule.{Rule, In-range}
 
 -- a grain is a cent divided by so much
 abbrev pub grains-per-cent : ℕ
@@ -59,6 +59,8 @@ pub record Well-shared (G : ℤ) (ws : List ℕ) (zs : List ℤ) (k : ℤ) : Typ
   pub carry-below : k <ℤ (pos (grains-per-cent * length ws))
 
 pub record Sharing-law (r : Rule) : Type 0 where
+  -- no part, no share
+  pub none : (T : ℤ) (B W : ℕ) → r T B 0 W ≡ pos 0
   pub inside : (G : ℤ) (ws : List ℕ) → In-range (whole G) (sum ws) → Well-shared G ws (shared r G ws) (new-carry G (shared r G ws))
   -- outside the ranges nothing is shared, and all is carried on
   pub outside : (G : ℤ) (ws : List ℕ) → (In-range (whole G) (sum ws) → ⊥) → (shared r G ws ≡ replicate (length ws) (pos 0)) × (new-carry G (shared r G ws) ≡ G)

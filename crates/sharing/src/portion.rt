@@ -22,7 +22,7 @@ pub impl Portion for u64 as NumberPortion {
     }
 }
 
-/// The sum of all parts.
+/// The sum of all parts, which a `u128` holds whatever they are.
 pub fn total_of<P: Portion>(parts: &[P]) -> u128
     ensures { λ r. ⌜ r ≡ sum (listed (P·Portion .portion) (now (parts .entry))) ⌝ }
 {

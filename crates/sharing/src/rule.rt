@@ -1,10 +1,10 @@
 //! What every sharing rule does, and the law it keeps.
 ghost use mathlib.Core.Path.{_≡_};
-ghost use Prim.Native.Nat.{ℕ, _≤_};
+ghost use Prim.Native.Nat.{ℕ, _<_, _≤_};
 ghost use lib.IntN.{ℤ, pos, negℤ, _*ℤ_};
 ghost use lib.Signed.{_≤ℤ_};
 ghost use Rattle.sums.specs.Floor.{floor};
-ghost use Rattle.sharing.specs.Rule.{Fair, In-range, shareable, most-cents};
+ghost use Rattle.sharing.specs.Rule.{Fair, In-range, shareable, most-cents, most-parts};
 
 /// The largest sum of all parts that a rule shares among.
 pub const MOST_PARTS: u64 = 500_000;
@@ -12,8 +12,9 @@ pub const MOST_PARTS: u64 = 500_000;
 /// The most whole cents, above and below 0, that a rule shares.
 pub const MOST_CENTS: i64 = 9_000_000_000_000;
 
-/// A sharing rule. Its ghost member `share` is a fixed function of the whole cents to be shared, the
-/// sum of the parts before, the part, and the sum of all parts.
+/// A sharing rule. Its ghost member `share` is a fixed function of T, the whole cents to be shared, B,
+/// the sum of the parts before, w, the part, and W, the sum of all parts. Inside the ranges it is at
+/// least floor(T x w / W) and at most floor(T x (B + w) / W) - floor(T x B / W); outside it is 0.
 pub trait SharingRule {
     ghost share: { ℤ → ℕ → ℕ → ℕ → ℤ };
 
@@ -44,5 +45,14 @@ pub(crate) fn rounded_down(cents: i64, part: u64, total: u64) -> i64
     ensures low { λ r. ⌜ negℤ (pos most-cents) ≤ℤ r ⌝ }
     ensures high { λ r. ⌜ r ≤ℤ pos most-cents ⌝ }
 {
-    (cents * part as i64).div_euclid(total as i64)
+    floor_of(cents * part as i64, total)
+}
+
+/// The quotient, rounded toward minus infinity.
+fn floor_of(product: i64, total: u64) -> i64
+    requires some { ⌜ 0 < total ⌝ }
+    requires few { ⌜ total ≤ most-parts ⌝ }
+    ensures { λ r. ⌜ r ≡ floor product total ⌝ }
+{
+    product.div_euclid(total as i64)
 }

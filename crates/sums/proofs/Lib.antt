@@ -3,3 +3,5 @@ pub mod SumLaws
 pub mod Floors
 pub mod Verdicts
 pub mod Tables
+pub mod Sizes
+pub mod Walks

@@ -1,13 +1,12 @@
-use mathlib.Core.Path.{_≡_, _∙_}
-use Prim.Native.Nat.{_<_, _≤_, _^_}
+use mathlib.Core.Path.{_≡_}
 use native.Mathlib.Omega.{arith}
 use borrow.Author.Needs.{needs}
-use lib.IntN.{ℤ, pos, _*ℤ_}
+use lib.IntN.{pos, _*ℤ_}
 use mir.Syntax.{w64}
-use mir.Val.{SFits, toZ, ofZ}
+use mir.Val.{SFits, toZ}
 use Rattle.std.proofs.shelf.Signed.{toZ-ofZ, toZ-pos}
 use Rattle.sums.specs.Floor.{floor}
-use Rattle.sharing.proofs.Ranges.{product-fits, floor-between, euclid-floor}
+use Rattle.sharing.proofs.Ranges.{product-fits, floor-between}
 use Rattle.sharing.proofs.rule.rounded_down.Needs as need
 
 pub mul-cents : need.mul-cents
@@ -22,8 +21,7 @@ returns c =
     let m = c .pre .ranged .not-too-much in
     let p = product-fits (c .args .cents) (c .args .part) (c .args .total) (c .pre .ranged) (c .pre .within) in
     let e : toZ w64 (c .args .part) ≡ pos (c .args .part) = toZ-pos w64 _ (omega arith) in
-    let et : toZ w64 (c .args .total) ≡ pos (c .args .total) = toZ-pos w64 _ (omega arith) in
-    let q : SFits w64 (c .div-euclid .result) = search needs in
-    let v : c .div-euclid .result ≡ floor (c .args .cents *ℤ pos (c .args .part)) (c .args .total) = (simp (toZ-ofZ, e, et) at (c .div-euclid .ensures)) ∙ euclid-floor (c .args .cents *ℤ pos (c .args .part)) (c .args .total) in
+    let q : SFits w64 (c .floor-of .result) = search needs in
+    let v : c .floor-of .result ≡ floor (c .args .cents *ℤ pos (c .args .part)) (c .args .total) = simp (toZ-ofZ, e) at (c .floor-of .ensures) in
     let b = floor-between (c .args .cents) (c .args .part) (c .args .total) (c .pre .ranged) (c .pre .within) in
     record { value = rw toZ-ofZ v; low = rw (toZ-ofZ, v) (b .0); high = rw (toZ-ofZ, v) (b .1) }

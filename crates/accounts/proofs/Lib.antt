@@ -1,0 +1,3 @@
+pub mod Moves
+pub mod Outcome
+pub mod Posts

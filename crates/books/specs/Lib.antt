@@ -1,0 +1,5 @@
+pub mod Books
+pub mod Changes
+pub mod Enrolling
+pub mod Laws
+pub mod Sheets
