@@ -59,6 +59,7 @@ impl NewSupplier {
     }
 }
 
+/// 1 is synchronized, all else is not.
 fn kind_of(kind: u16) -> Kind
     ensures { λ r. ⌜ r ≡ kind-of kind ⌝ }
 {

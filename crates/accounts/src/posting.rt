@@ -68,6 +68,7 @@ fn prices_at(prices: &[ProductPrices], location: usize) -> ProductPrices
 }
 
 impl Supplier {
+    /// The schedule that is paid already: none before the day-ahead schedule is posted.
     fn paid_for(&self, terms: &Terms) -> Reserves
         ensures { λ r. ⌜ r ≡ paid-for (now (terms .entry)) (now (self .entry)) ⌝ }
     {
@@ -87,6 +88,7 @@ impl Supplier {
         earned(&prices, reserves, &paid)
     }
 
+    /// The day-ahead schedule with the row posted.
     fn ahead_by(&self, terms: &Terms, reserves: Reserves) -> Reserves
         ensures { λ r. ⌜ r ≡ ahead-by (now (terms .entry)) (now (self .entry)) reserves ⌝ }
     {

@@ -8,24 +8,22 @@ ghost use Rattle.sharing.specs.Shares.{whole, rest as left-over};
 ghost use Rattle.accounts.specs.Posting.{with-hour, settle, settles, forget, charge, chargeable};
 use crate::customer::Customer;
 use crate::ranges::added;
+use crate::supplier::GRAINS_PER_CENT;
 use crate::supplier::Supplier;
 use market::Reserves;
-
-/// One cent per MW and hour, times a tenth of a MW, times one second, is a grain.
-const GRAINS_PER_CENT: i128 = 36_000;
 
 /// Whole cents of a number of grains, rounded toward minus infinity.
 fn whole_cents(grains: i128) -> i128
     ensures { λ r. ⌜ r ≡ whole grains ⌝ }
 {
-    grains.div_euclid(GRAINS_PER_CENT)
+    grains.div_euclid(GRAINS_PER_CENT as i128)
 }
 
 /// The grains that remain beside the whole cents.
 fn rest_grains(grains: i128) -> u32
     ensures { λ r. ⌜ r ≡ left-over grains ⌝ }
 {
-    grains.rem_euclid(GRAINS_PER_CENT) as u32
+    grains.rem_euclid(GRAINS_PER_CENT as i128) as u32
 }
 
 impl Supplier {

@@ -11,6 +11,9 @@ use market::Scheduled;
 /// The most tenths, or tenths per minute, of a limit, a rate or a scheduled amount.
 pub(crate) const MOST_TENTHS: u32 = 30_000;
 
+/// One cent per MW and hour, times a tenth of a MW, times one second, is a grain.
+pub(crate) const GRAINS_PER_CENT: u32 = 36_000;
+
 /// Whether a supplier is synchronized to the grid, which decides what it can be scheduled for.
 #[derive(Clone, Copy)]
 pub enum Kind {

@@ -1,6 +1,7 @@
 //! Rows of metered withdrawals.
 ghost use mathlib.Core.Path.{_≡_};
-ghost use Rattle.accounts.specs.Withdrawals.{has-net as nets, net as netted};
+ghost use Prim.Native.Nat.{_+_};
+ghost use Rattle.accounts.specs.Withdrawals.{has-net, net};
 use crate::account::Numbered;
 use sharing::Portion;
 
@@ -16,19 +17,25 @@ pub struct WithdrawalRow {
 }
 
 impl WithdrawalRow {
+    /// What is not charged.
+    fn exempt(&self) -> u64
+        ensures { λ r. ⌜ r ≡ now (self .entry) .station + now (self .entry) .exports ⌝ }
+    {
+        self.station as u64 + self.exports as u64
+    }
+
     /// Whether the gross withdrawal covers what is not charged.
     pub fn has_net(&self) -> bool
-        ensures { λ r. ⌜ r ≡ nets (now (self .entry)) ⌝ }
+        ensures { λ r. ⌜ r ≡ has-net (now (self .entry)) ⌝ }
     {
-        self.station as u64 + self.exports as u64 <= self.gross as u64
+        self.exempt() <= self.gross as u64
     }
 
     /// The net withdrawal, 0 where there is none.
     pub fn net(&self) -> u64
-        ensures { λ r. ⌜ r ≡ netted (now (self .entry)) ⌝ }
+        ensures { λ r. ⌜ r ≡ net (now (self .entry)) ⌝ }
     {
-        let kept = self.station as u64 + self.exports as u64;
-        (self.gross as u64).saturating_sub(kept)
+        (self.gross as u64).saturating_sub(self.exempt())
     }
 }
 

@@ -1,11 +1,11 @@
 -- What the acceptance of a call shows.
-use mathlib.Core.Path.{_≡_, refl, sym, _∙_, ap}
+use mathlib.Core.Path.{_≡_, refl, _∙_}
 use mathlib.Core.List.{List, [], _∷_}
-use mathlib.Core.Bool.{Bool, true, false, _&&_, _||_}
-use mathlib.Core.Logic.{_⊎_, inl, inr}
+use mathlib.Core.Bool.{true, false}
+use mathlib.Core.Logic.{inl, inr}
 use Prim.Native.Nat.{ℕ, _+_, _-_, _*_, _≤_, _<_, min}
 use native.Mathlib.Omega.{arith}
-use lib.Dec.{eqb, leb, ltb}
+use lib.Dec.{eqb}
 use lib.ListN.{getD, length, length-map}
 use Rattle.std.specs.shelf.Lists.{sum}
 use Rattle.std.proofs.shelf.Lists.{getD-past}
@@ -18,7 +18,7 @@ use Rattle.maps.specs.Market.{Market}
 use Rattle.curves.specs.declared.step.Step.{Step}
 use Rattle.market.specs.declared.reserves.Reserves.{Reserves}
 use Rattle.market.specs.Prices.{quantity}
-use Rattle.market.specs.Claims.{most-shadow-price, most-target, counts-verdict, claim-in-range, price-verdict, Within-curves}
+use Rattle.market.specs.Claims.{most-shadow-price, counts-verdict, claim-in-range, price-verdict, Within-curves}
 use Rattle.market.proofs.Within.{within-curves}
 use Rattle.sharing.specs.Rule.{Rule, most-parts}
 use Rattle.accounts.specs.declared.supplier.Kind.{Kind}
@@ -31,9 +31,12 @@ use Rattle.accounts.specs.Enrolment.{most-tenths}
 use Rattle.accounts.specs.Capability.{kind-able, able}
 use Rattle.accounts.specs.Ranges.{supplier-fits}
 use Rattle.accounts.specs.Posting.{post-clearing, post-interval, stays}
-use Rattle.law.specs.Ledger.{Stage, at-rest, opened, cleared, State, Args, enrol-supplier, enrol-customer, open-hour, clear, interval, close, void, hour-seconds, places, aheads, schedules, nets, grains-due}
+use Rattle.law.specs.Ledger.{Stage, at-rest, opened, cleared, State, Args, enrol-supplier, enrol-customer, open-hour, clear, interval, close, void, hour-seconds, places, aheads, schedules, nets}
 use Rattle.law.proofs.Bounds.{Small}
-use Rattle.law.specs.Verdicts.{most-suppliers, most-customers, at, stage-verdict, place-verdict, room-verdict, supplier-verdict, customer-verdict, sheet-verdict, capability-verdict, schedule-verdict, posting-verdict, clearing-verdict, seconds-verdict, interval-verdict, complete-verdict, nets-verdict, total-verdict, withdrawal-verdict, closing-verdict, verdict}
+use Rattle.accounts.specs.Limits.{most-suppliers, most-customers}
+use Rattle.books.specs.Enrolling.{place-verdict, room-verdict, new-verdict}
+use Rattle.books.specs.Sheets.{sheet-verdict}
+use Rattle.law.specs.Verdicts.{at, stage-verdict, capability-verdict, schedule-verdict, posting-verdict, clearing-verdict, seconds-verdict, interval-verdict, complete-verdict, nets-verdict, total-verdict, withdrawal-verdict, verdict}
 
 -- the most tenths of one row, in its three products together
 abbrev pub row-most : ℕ
@@ -171,14 +174,14 @@ staged : (g h : Stage) (v : Verdict Fault) → (stage-verdict (at g h) then v) �
 staged g h v e = let a = both (stage-verdict (at g h)) v e in (stage-is g h (wanted _ (WrongStage 0) (a .0)), a .1)
 
 has-room : (most room count : ℕ) → room-verdict most room count ≡ accept → count < most
-has-room most room count e = ltb-true _ _ (and-parts _ _ (wanted _ (BookFull count) e) .0)
+has-room most room count e = let h = ltb-true count (min most room) (wanted _ (BookFull count) e) in omega arith
 
 pub accepted : (m : Market) (r : Rule) (s : State) (a : Args) → verdict m r s a ≡ accept → Accepted m s a
 accepted m r s (enrol-supplier number location kind upper response) e =
     let a = staged (s .stage) at-rest _ e in
-    let b = both (place-verdict (λ (x : Supplier). x .number) number (s .suppliers)) _ (a .1) in
-    let c = both (room-verdict most-suppliers (s .supplier-room) (length (s .suppliers))) _ (b .1) in
-    (a .0, has-room most-suppliers (s .supplier-room) (length (s .suppliers)) (c .0))
+    let b = both (new-verdict (λ (x : Supplier). x .number) most-suppliers (s .supplier-room) number (s .suppliers)) _ (a .1) in
+    let c = both (place-verdict (λ (x : Supplier). x .number) number (s .suppliers)) _ (b .0) in
+    (a .0, has-room most-suppliers (s .supplier-room) (length (s .suppliers)) (c .1))
 accepted m r s (enrol-customer number) e =
     let a = staged (s .stage) at-rest _ e in
     let b = both (place-verdict (λ (x : Customer). x .number) number (s .customers)) _ (a .1) in

@@ -1,7 +1,7 @@
 -- What is paid is what is charged: the books agree with the tally after every accepted call.
 use mathlib.Core.Path.{_≡_, refl, sym, _∙_, ap, subst}
 use mathlib.Core.List.{List, [], _∷_, _++_, map, map-map}
-use Prim.Native.Nat.{ℕ}
+use Prim.Native.Nat.{ℕ, _≤_}
 use native.Mathlib.Omega.{arith}
 use lib.IntN.{ℤ, pos, _+ℤ_, _*ℤ_}
 use lib.ListN.{length, length-map}
@@ -27,9 +27,9 @@ use Rattle.accounts.specs.Enrolment.{new-supplier, new-customer}
 use Rattle.accounts.specs.Posting.{post-clearing, post-interval, settle, forget, charge}
 use Rattle.law.specs.Ledger.{Stage, at-rest, opened, cleared, State, new, Args, enrol-supplier, enrol-customer, open-hour, clear, interval, close, void, hour-seconds, places, aheads, schedules, nets, grains-due, charges, after}
 use Rattle.law.specs.Tally.{Interval, Hour, not-cleared, cleared-at, Tally, add, for-seconds, intervals-cost, hour-cost, hour-earned, after-accepted, tally}
-use Rattle.law.specs.Law.{owed, paid, charged, Balanced, In-hand}
+use Rattle.law.specs.Law.{owed, charged, Balanced, In-hand}
 use Rattle.law.proofs.Accepted.{Accepted}
-use Rattle.law.proofs.Books.{length-each, map-each, map-each-right, total-added, total-for, length-over, hours, clearing-hours, interval-hours, settled-all, sum-charged}
+use Rattle.law.proofs.Books.{map-each, map-each-right, total-added, total-for, length-over, hours, clearing-hours, interval-hours, settled-all, sum-charged}
 
 -- ---- what holds between ledger, books and tally
 -- the tally has a clearing exactly while the ledger is cleared
@@ -252,8 +252,9 @@ paid-is xs =
 pub balances : (m : Market) (t : Tally) (s : State) → Agrees m t s → Balanced t s
 balances m t s i = record { both = paid-is (s .suppliers) ∙ ap total (i .own) ∙ i .all ∙ sym (i .charges); total = i .charges; own = i .own }
 
-pub hand-agrees : (m : Market) (t : Tally) (s : State) → Agrees m t s → In-hand m t s
-hand-agrees m t s i = record {
+pub in-hand : (m : Market) (t : Tally) (s : State) → Agrees m t s → s .seconds ≤ hour-seconds → In-hand m t s
+in-hand m t s i h = record {
   earned = sym (sum-map (λ z. z) (λ a. a .hour) (s .suppliers)) ∙ ap total (i .hourly) ∙ i .spent ∙ sym (i .cost);
   reckoned = i .cost ∙ ap (λ (l : List ℕ). hour-cost m l (t .hour)) (i .located);
+  timed = h;
 }

@@ -1,18 +1,17 @@
 -- How much an hour can cost.
-use mathlib.Core.Path.{_≡_, refl, sym, _∙_, ap}
+use mathlib.Core.Path.{_≡_, refl, sym, _∙_}
 use mathlib.Core.List.{List, [], _∷_}
 use mathlib.Core.Bool.{Bool, true, false}
 use Prim.Native.Nat.{ℕ, zero, suc, _+_, _*_, _≤_}
-use native.Mathlib.Nat.{mul-le-mul, mul-le-mul-right}
+use native.Mathlib.Nat.{mul-le-mul, mul-le-mul-right, mul-add}
 use native.Mathlib.Omega.{arith}
-use lib.IntN.{ℤ, pos, negsuc, negℤ, natAbs, _-ℤ_, _*ℤ_}
+use lib.IntN.{ℤ, pos, negsuc, negℤ, natAbs, _+ℤ_, _-ℤ_, _*ℤ_}
 use lib.ListN.{getD, length}
 use borrow.Author.Differences.{ints}
 use Rattle.std.specs.shelf.Lists.{sumBy}
 use Rattle.std.proofs.shelf.Sums.{sumBy-cons}
 use Rattle.sums.specs.Sums.{upto, when}
 use Rattle.sums.proofs.SumLaws.{upto-at-most, pos-sum}
-use Rattle.maps.specs.declared.product.Product.{Product}
 use Rattle.maps.specs.declared.product.Product.the-variants.{ThirtyMinute, TenMinute, Spinning}
 use Rattle.maps.specs.Market.{Market}
 use Rattle.market.specs.declared.reserves.Reserves.{Reserves}
@@ -79,5 +78,11 @@ abs-times : (z : ℤ) (d : ℕ) → natAbs (z *ℤ pos d) ≡ natAbs z * d
 abs-times (pos n) d = refl
 abs-times (negsuc n) d = abs-neg (suc n * d)
 
-pub for-time : (z : ℤ) (d t : ℕ) → natAbs z ≤ t → natAbs (z *ℤ pos d) ≤ t * d
-for-time z d t h = rw (abs-times z d) (mul-le-mul-right d h)
+-- d more seconds at no more than t each
+pub grown-within : (c x : ℤ) (t n d : ℕ) → natAbs c ≤ t * n → natAbs x ≤ t → natAbs (c +ℤ x *ℤ pos d) ≤ t * (n + d)
+grown-within c x t n d h k =
+    let l : natAbs (x *ℤ pos d) ≤ t * d = rw (abs-times x d) (mul-le-mul-right d k) in
+    lin c (x *ℤ pos d) (t * n) (t * d) (t * (n + d)) (mul-add t n d) h l
+  where
+    lin : (a b : ℤ) (p q s : ℕ) → s ≡ p + q → natAbs a ≤ p → natAbs b ≤ q → natAbs (a +ℤ b) ≤ s
+    lin a b p q s e h k = omega (arith, ints)

@@ -1,5 +1,5 @@
 -- The worked hour, by computation.
-use mathlib.Core.Path.{_≡_, refl}
+use mathlib.Core.Path.{refl}
 use mathlib.Core.List.{List, [], _∷_}
 use Rattle.sums.specs.Verdict.{accepts}
 use Rattle.maps.specs.Market.{Market}
@@ -8,10 +8,10 @@ use Rattle.sharing.specs.Rule.{Rule, running}
 use Rattle.law.specs.Ledger.{State, Args, new}
 use Rattle.law.specs.Verdicts.{verdict}
 use Rattle.law.specs.Run.{leaves, Step, Fed, Run, fresh, more}
-use Rattle.law.specs.Case.{ends, told-of, calls, Worked-case}
+use Rattle.law.specs.Case.{ends, logged, calls, Worked-case}
 
 -- any calls make a run
-pub runs-on : (m : Market) (r : Rule) (calls : List Args) (log : List Fed) (s : State) → Run m r log s → Run m r (told-of m r s calls log) (ends m r s calls)
+pub runs-on : (m : Market) (r : Rule) (calls : List Args) (log : List Fed) (s : State) → Run m r log s → Run m r (logged m r s calls log) (ends m r s calls)
 runs-on m r [] log s run = run
 runs-on m r (a ∷ calls) log s run =
     let step : Step m r s a (verdict m r s a) (leaves m r s a (verdict m r s a)) = record { answer = refl; left = refl } in
@@ -21,6 +21,7 @@ pub worked-case : Worked-case
 worked-case = record {
   is-run = runs-on fixed-market running calls [] (new 1 1) fresh;
   taken = refl;
+  net = refl;
   paid = refl;
   held = refl;
   charged = refl;

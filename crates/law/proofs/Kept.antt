@@ -2,9 +2,10 @@
 use mathlib.Core.Path.{_≡_, refl, sym, _∙_, ap, subst}
 use mathlib.Core.List.{List, [], _∷_, _++_, map}
 use mathlib.Core.Bool.{Bool, true, false, _||_}
-use Prim.Native.Nat.{ℕ, _+_, _*_, _≤_, _<_}
+use Prim.Native.Nat.{ℕ, _+_, _*_, _≤_}
+use native.Mathlib.Nat.{add-assoc}
 use native.Mathlib.Omega.{arith}
-use lib.IntN.{ℤ, pos, negℤ, natAbs, _+ℤ_, _*ℤ_}
+use lib.IntN.{ℤ, pos, negℤ, natAbs, _+ℤ_}
 use lib.Signed.{_≤ℤ_, _<ℤ_}
 use lib.ListN.{length, length-append, length-map}
 use borrow.Author.Differences.{ints}
@@ -21,24 +22,25 @@ use Rattle.market.specs.declared.reserves.Reserves.{Reserves}
 use Rattle.market.specs.Prices.{quantity, cost, cost-over}
 use Rattle.market.specs.Claims.{most-shadow-price, Within-curves}
 use Rattle.market.proofs.Better.{better-never-cheaper}
-use Rattle.sharing.specs.Rule.{Rule, Fair, In-range, most-parts, most-cents}
+use Rattle.sharing.specs.Rule.{Rule, Fair, In-range, most-cents}
 use Rattle.sharing.specs.Shares.{grains-per-cent, whole, shared, new-carry, Well-shared}
-use Rattle.sharing.proofs.Law.{length-shares, sharing-law}
+use Rattle.sharing.proofs.Law.{sharing-law}
 use Rattle.accounts.specs.declared.supplier.Supplier.{Supplier}
 use Rattle.accounts.specs.declared.customer.Customer.{Customer}
 use Rattle.accounts.specs.declared.schedule.ScheduleRow.{ScheduleRow}
 use Rattle.accounts.specs.declared.withdrawal.WithdrawalRow.{WithdrawalRow}
 use Rattle.accounts.specs.Enrolment.{new-supplier, new-customer}
 use Rattle.accounts.specs.Posting.{post-clearing, post-interval, settle, forget, charge}
-use Rattle.law.specs.Ledger.{Stage, at-rest, opened, cleared, State, new, Args, enrol-supplier, enrol-customer, open-hour, clear, interval, close, void, hour-seconds, places, aheads, schedules, nets, grains-due, charges, after}
-use Rattle.law.specs.Verdicts.{most-suppliers, most-customers, verdict}
+use Rattle.law.specs.Ledger.{opened, State, new, Args, enrol-supplier, enrol-customer, open-hour, clear, interval, close, void, hour-seconds, places, aheads, schedules, nets, grains-due, charges, after}
+use Rattle.accounts.specs.Limits.{most-suppliers, most-customers}
+use Rattle.law.specs.Verdicts.{verdict}
 use Rattle.law.specs.Run.{leaves, Step, Fed, Run, fresh, more}
 use Rattle.law.specs.Tally.{Tally, Hour, not-cleared, cleared-at, add, hour-cost, tally}
-use Rattle.law.specs.Law.{is-close, any-closed, Carried, Priced, grains-of, Shared, Lawful, Kept, Runs-keep}
+use Rattle.law.specs.Law.{is-close, any-closed, Carried, Priced, grains-of, Lawful, Kept, Runs-keep}
 use Rattle.law.proofs.Books.{length-each, charged-cents}
-use Rattle.law.proofs.Bounds.{Small, cost-most, over-most, for-time}
+use Rattle.law.proofs.Bounds.{cost-most, over-most, grown-within}
 use Rattle.law.proofs.Accepted.{row-most, Schedule-taken, Withdrawals-taken, Accepted, accepted}
-use Rattle.law.proofs.Balance.{Same-stage, Agrees, start, one-step, balances, hand-agrees}
+use Rattle.law.proofs.Balance.{Same-stage, Agrees, start, one-step, balances, in-hand}
 
 -- the most that a second costs, in grains
 abbrev pub second-most : ℕ
@@ -78,11 +80,17 @@ cents-within c k seconds h p q =
     let y = floor-above (c +ℤ k) grains-per-cent (omega arith) in
     (omega (arith, ints), omega (arith, ints))
 
+pub closing-in-range : (c k : ℤ) (ys : List Customer) (settled : ℕ) (rows : List WithdrawalRow)
+    → natAbs c ≤ second-most * (hour-seconds + settled) → natAbs k ≤ grains-per-cent * most-customers → Withdrawals-taken ys settled rows → In-range (whole (c +ℤ k)) (sum (nets rows))
+closing-in-range c k ys settled rows h q ok =
+    let e = ok .complete in
+    let T = cents-within c k settled h (omega arith) q in
+    record { some = ok .some; not-too-much = ok .not-too-much; low = T .0; high = T .1 }
+
 well-shared : (r : Rule) → Fair r → (closed : Bool) (s : State) → Ranges closed s → (rows : List WithdrawalRow) → Withdrawals-taken (s .customers) (s .seconds) rows
     → Well-shared (grains-due s) (nets rows) (charges r s rows) (new-carry (grains-due s) (charges r s rows))
 well-shared r fair closed s g rows ok =
-    let T = cents-within (s .cost) (s .carry) (s .seconds) (g .cost) (g .seconds) (carry-within closed s (g .carry) (g .customers)) in
-    sharing-law r fair .inside (grains-due s) (nets rows) (record { some = ok .some; not-too-much = ok .not-too-much; low = T .0; high = T .1 })
+    sharing-law r fair .inside (grains-due s) (nets rows) (closing-in-range (s .cost) (s .carry) (s .customers) (s .seconds) rows (g .cost) (carry-within closed s (g .carry) (g .customers)) ok)
 
 -- a call that leaves the carry
 same-carry : (closed : Bool) (s s′ : State) → s′ .carry ≡ s .carry → length (s .customers) ≤ length (s′ .customers) → Carried closed s → Carried closed s′
@@ -127,27 +135,25 @@ module _ (m : Market) (law : Map-law m) (r : Rule) (fair : Fair r) (closed : Boo
         suppliers = omega arith;
         customers = g .customers;
         seconds = omega arith;
-        cost = lin (s .cost) (cost m shadow (places (s .suppliers)) (schedules rows)) (no-cost m t s inv (ok .0)) c;
+        cost = grown-within (s .cost) (cost m shadow (places (s .suppliers)) (schedules rows)) second-most 0 hour-seconds (none (no-cost m t s inv (ok .0))) c;
         carry = same-carry closed s _ refl (omega arith) (g .carry);
       }
     where
-      lin : (c x : ℤ) → c ≡ pos 0 → natAbs x ≤ second-most → natAbs (c +ℤ x *ℤ pos hour-seconds) ≤ second-most * (hour-seconds + 0)
-      lin c x e h = omega (arith, ints)
+      none : {c : ℤ} → c ≡ pos 0 → natAbs c ≤ second-most * 0
+      none {c} e = omega (arith, ints)
   ranges-step (interval seconds shadow targets curves rows) ok =
       let sheet = ok .1 in
       let n = length-each (post-interval m shadow seconds) (s .suppliers) (schedules rows) (sheet .whole-book) in
       let h = g .suppliers in
+      let x : ℤ = cost-over m shadow (places (s .suppliers)) (schedules rows) (aheads (s .suppliers)) in
       let c = interval-cost m law (s .suppliers) h shadow targets curves rows sheet in
       record {
         suppliers = omega arith;
         customers = g .customers;
         seconds = ok .2;
-        cost = lin (s .cost) _ (s .seconds) seconds (g .cost) (for-time _ seconds second-most c);
+        cost = rw (← add-assoc hour-seconds (s .seconds) seconds) (grown-within (s .cost) x second-most (hour-seconds + s .seconds) seconds (g .cost) c);
         carry = same-carry closed s _ refl (omega arith) (g .carry);
       }
-    where
-      lin : (c x : ℤ) (a d : ℕ) → natAbs c ≤ second-most * (hour-seconds + a) → natAbs x ≤ second-most * d → natAbs (c +ℤ x) ≤ second-most * (hour-seconds + (a + d))
-      lin c x a d h k = omega (arith, ints)
   ranges-step (close rows) ok =
       let w = well-shared r fair closed s g rows (ok .1) in
       let n = length-each charge (s .customers) (charges r s rows) (w .one-each ∙ ok .1 .whole-book) in
@@ -173,7 +179,7 @@ module _ (m : Market) (law : Map-law m) (r : Rule) (fair : Fair r) (closed : Boo
 
   -- ---- what each accepted call owes
   same-grains : grains-due s ≡ grains-of m t s
-  same-grains = ap (λ (c : ℤ). c +ℤ s .carry) (hand-agrees m t s inv .reckoned)
+  same-grains = ap (λ (c : ℤ). c +ℤ s .carry) (in-hand m t s inv (g .seconds) .reckoned)
 
   priced : (shadow targets : List ℕ) (curves : List (List CurveStep)) (rs : List Reserves) → Within-curves m shadow targets curves (quantity m (places (s .suppliers)) rs) → Priced m (t .places) shadow targets curves rs
   priced shadow targets curves rs h = record {
@@ -189,7 +195,7 @@ module _ (m : Market) (law : Map-law m) (r : Rule) (fair : Fair r) (closed : Boo
   lawful (interval seconds shadow targets curves rows) ok = priced shadow targets curves (schedules rows) (ok .1 .within)
   lawful (close rows) ok = record {
     by-rule = charged-cents (s .customers) (charges r s rows) ∙ ap (λ (q : ℤ). each add (map (λ c. c .cents) (s .customers)) (shared r q (nets rows))) same-grains;
-    rounded = subst (λ (q : ℤ). Well-shared q (nets rows) (shared r q (nets rows)) (after m r s (close rows) .carry)) same-grains (well-shared r fair closed s g rows (ok .1));
+    well-shared = subst (λ (q : ℤ). Well-shared q (nets rows) (shared r q (nets rows)) (after m r s (close rows) .carry)) same-grains (well-shared r fair closed s g rows (ok .1));
   }
   lawful void ok = tt
 
@@ -233,7 +239,7 @@ module _ (m : Market) (law : Map-law m) (r : Rule) (fair : Fair r) where
       let b = run-within run in
       record {
         balanced = balances m (tally m log) s (b .0);
-        in-hand = hand-agrees m (tally m log) s (b .0);
+        in-hand = in-hand m (tally m log) s (b .0) (b .1 .seconds);
         carried = b .1 .carry;
         next = λ a s′ one. step-lawful (tally m log) (any-closed log) s s′ a b one;
       }

@@ -1,16 +1,15 @@
 -- Steps from what a call's checks answer and what it leaves, over plain values.
-use mathlib.Core.Path.{_≡_, refl, sym, _∙_, ap}
+use mathlib.Core.Path.{_≡_, refl, _∙_, ap}
 use mathlib.Core.List.{List, [], _∷_, _++_, map}
 use mathlib.Core.Bool.{Bool, cond}
 use Prim.Native.Nat.{ℕ, _+_}
 use lib.IntN.{ℤ, pos, _+ℤ_, _*ℤ_}
-use lib.ListN.{length}
 use Rattle.std.specs.declared.option.Option.{Option}
 use Rattle.std.specs.declared.option.Option.the-variants.{Some}
-use Rattle.std.specs.declared.result.Result.the-variants.{Ok, Err}
+use Rattle.std.specs.declared.result.Result.the-variants.{Err}
 use Rattle.faults.specs.declared.fault.Fault.{Fault}
 use Rattle.sums.specs.Sums.{each}
-use Rattle.sums.specs.Verdict.{Verdict, accept, accepts, want, scan, scan-one, _then_}
+use Rattle.sums.specs.Verdict.{Verdict, accept, accepts, want, scan, scan-one}
 use Rattle.sums.proofs.Verdicts.{both, wanted}
 use Rattle.maps.specs.Market.{Market, Map-law}
 use Rattle.curves.specs.declared.step.Step.{Step as CurveStep}

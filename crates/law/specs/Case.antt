@@ -1,9 +1,9 @@
 -- A worked hour: one supplier at West, one customer, a clearing and one interval.
 use mathlib.Core.Path.{_≡_}
-use mathlib.Core.Bool.{Bool, true}
+use mathlib.Core.Bool.{true}
 use mathlib.Core.List.{List, [], _∷_, map}
 use Prim.Native.Nat.{ℕ}
-use lib.IntN.{ℤ, pos}
+use lib.IntN.{pos}
 use lib.ListN.{replicate}
 use Rattle.sums.specs.Verdict.{accepts}
 use Rattle.maps.specs.Market.{Market}
@@ -12,7 +12,7 @@ use Rattle.curves.specs.declared.step.Step.{Step as CurveStep}
 use Rattle.sharing.specs.Rule.{Rule, running}
 use Rattle.accounts.specs.declared.schedule.ScheduleRow.{ScheduleRow}
 use Rattle.accounts.specs.declared.withdrawal.WithdrawalRow.{WithdrawalRow}
-use Rattle.law.specs.Ledger.{State, Args, new, enrol-supplier, enrol-customer, open-hour, clear, interval, close}
+use Rattle.law.specs.Ledger.{State, Args, new, enrol-supplier, enrol-customer, open-hour, clear, interval, close, nets}
 use Rattle.law.specs.Verdicts.{verdict}
 use Rattle.law.specs.Run.{leaves, Fed, Run}
 
@@ -21,10 +21,10 @@ abbrev pub ends : Market → Rule → State → List Args → State
 ends m r s [] = s
 ends m r s (a ∷ calls) = ends m r (leaves m r s a (verdict m r s a)) calls
 
-abbrev pub told-of : Market → Rule → State → List Args → List Fed → List Fed
-told-of m r s [] log = log
-told-of m r s (a ∷ calls) log =
-    told-of m r (leaves m r s a (verdict m r s a)) calls (record { args = a; accepted = accepts (verdict m r s a) } ∷ log)
+abbrev pub logged : Market → Rule → State → List Args → List Fed → List Fed
+logged m r s [] log = log
+logged m r s (a ∷ calls) log =
+    logged m r (leaves m r s a (verdict m r s a)) calls (record { args = a; accepted = accepts (verdict m r s a) } ∷ log)
 
 -- ---- the case
 abbrev pub total-thirty : List CurveStep
@@ -46,7 +46,7 @@ abbrev pub thirty : ℕ → List ScheduleRow
 thirty tenths = record { number = 7; energy = pos 0; regulation = 0; reserves = record { thirty = tenths; ten = 0; spinning = 0 } } ∷ []
 
 abbrev pub withdrawn : List WithdrawalRow
-withdrawn = record { number = 9; gross = 50; station = 0; exports = 0 } ∷ []
+withdrawn = record { number = 9; gross = 60; station = 7; exports = 3 } ∷ []
 
 abbrev pub calls : List Args
 calls =
@@ -62,12 +62,13 @@ abbrev pub end : State
 end = ends fixed-market running (new 1 1) calls
 
 abbrev pub log : List Fed
-log = told-of fixed-market running (new 1 1) calls []
+log = logged fixed-market running (new 1 1) calls []
 
 -- all calls are accepted: 300 x 100 tenths and 400 x (90 - 100) tenths, for an hour each, are 2,600 cents
 pub record Worked-case : Type 0 where
   pub is-run : Run fixed-market running log end
   pub taken : map (λ x. x .accepted) log ≡ replicate 6 true
+  pub net : nets withdrawn ≡ 50 ∷ []
   pub paid : map (λ a. a .cents) (end .suppliers) ≡ pos 2600 ∷ []
   pub held : map (λ a. a .held) (end .suppliers) ≡ 0 ∷ []
   pub charged : map (λ c. c .cents) (end .customers) ≡ pos 2600 ∷ []

@@ -2,7 +2,7 @@
 use mathlib.Core.Path.{_≡_}
 use mathlib.Core.Bool.{Bool, true, false, _&&_, _||_}
 use mathlib.Core.List.{List, [], _∷_, map}
-use Prim.Native.Nat.{ℕ, _*_}
+use Prim.Native.Nat.{ℕ, _*_, _≤_}
 use lib.IntN.{ℤ, pos, _+ℤ_, _*ℤ_}
 use lib.ListN.{length}
 use lib.Signed.{_≤ℤ_, _<ℤ_}
@@ -18,7 +18,7 @@ use Rattle.sharing.specs.Rule.{Rule, Fair}
 use Rattle.sharing.specs.Shares.{grains-per-cent, shared, Well-shared}
 use Rattle.accounts.specs.declared.supplier.Supplier.{Supplier}
 use Rattle.accounts.specs.declared.withdrawal.WithdrawalRow.{WithdrawalRow}
-use Rattle.law.specs.Ledger.{State, Args, enrol-supplier, enrol-customer, open-hour, clear, interval, close, void, schedules, nets}
+use Rattle.law.specs.Ledger.{State, Args, enrol-supplier, enrol-customer, open-hour, clear, interval, close, void, hour-seconds, schedules, nets}
 use Rattle.law.specs.Run.{Step, Fed, Run}
 use Rattle.law.specs.Tally.{Tally, tally, hour-cost, add}
 
@@ -40,10 +40,11 @@ pub record Balanced (t : Tally) (s : State) : Type 0 where
   pub total : charged s ≡ t .total
   pub own : map owed (s .suppliers) ≡ t .earnings
 
--- ---- the hour in hand: the suppliers' grains make its cost, and the tally reckons that cost too
+-- ---- the hour in hand: the suppliers' grains make its cost, which the tally reckons too, and it is not past its end
 pub record In-hand (m : Market) (t : Tally) (s : State) : Type 0 where
   pub earned : sumZ (λ a. a .hour) (s .suppliers) ≡ s .cost
   pub reckoned : s .cost ≡ hour-cost m (t .places) (t .hour)
+  pub timed : s .seconds ≤ hour-seconds
 
 -- ---- the carry
 abbrev pub is-close : Args → Bool
@@ -79,7 +80,7 @@ grains-of m t s = hour-cost m (t .places) (t .hour) +ℤ s .carry
 -- a closing: the hour's cents are shared by the rule among the net withdrawals, each share rounded down or up
 pub record Shared (m : Market) (r : Rule) (t : Tally) (s : State) (rows : List WithdrawalRow) (s′ : State) : Type 0 where
   pub by-rule : map (λ c. c .cents) (s′ .customers) ≡ each add (map (λ c. c .cents) (s .customers)) (shared r (grains-of m t s) (nets rows))
-  pub rounded : Well-shared (grains-of m t s) (nets rows) (shared r (grains-of m t s) (nets rows)) (s′ .carry)
+  pub well-shared : Well-shared (grains-of m t s) (nets rows) (shared r (grains-of m t s) (nets rows)) (s′ .carry)
 
 abbrev pub Lawful : Market → Rule → Tally → State → Args → State → Type 0
 Lawful m r t s (enrol-supplier number location kind upper response) s′ = Unit {0}

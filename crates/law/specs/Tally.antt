@@ -62,24 +62,24 @@ abbrev pub one-more : Hour → Interval → Hour
 one-more not-cleared i = not-cleared
 one-more (cleared-at shadow ahead is) i = cleared-at shadow ahead (i ∷ is)
 
-abbrev pub with-hour : Tally → Hour → Tally
-with-hour t h = record { places = t .places; hour = h; total = t .total; earnings = t .earnings }
+abbrev pub with-hour-in-hand : Tally → Hour → Tally
+with-hour-in-hand t h = record { places = t .places; hour = h; total = t .total; earnings = t .earnings }
 
 abbrev pub after-accepted : Market → Tally → Args → Tally
 after-accepted m t (enrol-supplier number location kind upper response) =
     record { places = t .places ++ (location ∷ []); hour = t .hour; total = t .total; earnings = t .earnings ++ (pos 0 ∷ []) }
 after-accepted m t (enrol-customer number) = t
 after-accepted m t (open-hour hour) = t
-after-accepted m t (clear shadow targets curves rows) = with-hour t (cleared-at shadow (schedules rows) [])
+after-accepted m t (clear shadow targets curves rows) = with-hour-in-hand t (cleared-at shadow (schedules rows) [])
 after-accepted m t (interval seconds shadow targets curves rows) =
-    with-hour t (one-more (t .hour) (record { seconds = seconds; shadow = shadow; real = schedules rows }))
+    with-hour-in-hand t (one-more (t .hour) (record { seconds = seconds; shadow = shadow; real = schedules rows }))
 after-accepted m t (close rows) = record {
   places = t .places;
   hour = not-cleared;
   total = t .total +ℤ hour-cost m (t .places) (t .hour);
   earnings = each add (t .earnings) (hour-earned m (t .places) (t .hour));
 }
-after-accepted m t void = with-hour t not-cleared
+after-accepted m t void = with-hour-in-hand t not-cleared
 
 -- a refused step changes nothing
 abbrev pub fed : Market → Tally → Args → Bool → Tally

@@ -12,11 +12,7 @@ use Rattle.std.specs.declared.option.Option.the-variants.{Some, None}
 use Rattle.faults.specs.declared.fault.Fault.{Fault}
 use Rattle.faults.specs.declared.fault.Fault.the-variants.{
   WrongStage,
-  NumberTaken,
-  BookFull,
   HourOutOfOrder,
-  SheetLength,
-  SheetNumber,
   BeyondCapability,
   IntervalLength,
   HourIncomplete,
@@ -37,9 +33,12 @@ use Rattle.accounts.specs.declared.customer.Customer.{Customer}
 use Rattle.accounts.specs.declared.schedule.ScheduleRow.{ScheduleRow}
 use Rattle.accounts.specs.declared.withdrawal.WithdrawalRow.{WithdrawalRow}
 use Rattle.accounts.specs.Enrolment.{fields-verdict}
+use Rattle.accounts.specs.Limits.{most-suppliers, most-customers}
 use Rattle.accounts.specs.Capability.{able}
 use Rattle.accounts.specs.Posting.{post-clearing, post-interval, stays, settles, chargeable}
 use Rattle.accounts.specs.Withdrawals.{has-net}
+use Rattle.books.specs.Enrolling.{new-verdict}
+use Rattle.books.specs.Sheets.{sheet-verdict}
 use Rattle.law.specs.Ledger.{
   Stage,
   at-rest,
@@ -61,13 +60,7 @@ use Rattle.law.specs.Ledger.{
   grains-due,
 }
 
--- the most accounts of the books, and the last hour that there is
-abbrev pub most-suppliers : ℕ
-most-suppliers = 128
-
-abbrev pub most-customers : ℕ
-most-customers = 256
-
+-- the last hour that there is
 abbrev pub last-hour : ℕ
 last-hour = 499999
 
@@ -85,26 +78,14 @@ abbrev pub stage-verdict : Bool → Verdict Fault
 stage-verdict taken = want taken (WrongStage 0)
 
 -- ---- enrolment
-abbrev pub unlike : {A : Type 0} → (A → ℕ) → ℕ → A → Bool
-unlike number n x = not (eqb (number x) n)
-
--- [11] no account of the book has the number
-abbrev pub place-verdict : {A : Type 0} → (A → ℕ) → ℕ → List A → Verdict Fault
-place-verdict number n xs = scan-one (unlike number n) NumberTaken 0 xs
-
--- [12] the book may have another account, and its table has a free row
-abbrev pub room-verdict : (most room count : ℕ) → Verdict Fault
-room-verdict most room count = want (ltb count most && ltb count room) (BookFull count)
-
+-- [11, 12, 13] a new number, room in the book, and the supplier's fields
 abbrev pub supplier-verdict : Market → List Supplier → ℕ → (number location kind upper response : ℕ) → Verdict Fault
 supplier-verdict m suppliers room number location kind upper response =
-    place-verdict (λ a. a .number) number suppliers
-    then room-verdict most-suppliers room (length suppliers)
-    then fields-verdict (m .locations) location kind upper response
+    new-verdict (λ a. a .number) most-suppliers room number suppliers then fields-verdict (m .locations) location kind upper response
 
+-- [11, 12]
 abbrev pub customer-verdict : List Customer → ℕ → (number : ℕ) → Verdict Fault
-customer-verdict customers room number =
-    place-verdict (λ a. a .number) number customers then room-verdict most-customers room (length customers)
+customer-verdict customers room number = new-verdict (λ a. a .number) most-customers room number customers
 
 -- ---- opening
 abbrev pub later : Option ℕ → ℕ → Bool
@@ -116,14 +97,6 @@ abbrev pub hour-verdict : Option ℕ → ℕ → Verdict Fault
 hour-verdict last hour = want (leb hour last-hour && later last hour) (HourOutOfOrder last)
 
 -- ---- sheets
-abbrev pub alike : {A B : Type 0} → (A → ℕ) → (B → ℕ) → A → B → Bool
-alike number row-number x row = eqb (number x) (row-number row)
-
--- [31, 32] a row for each account, with its number
-abbrev pub sheet-verdict : {A B : Type 0} → (A → ℕ) → (B → ℕ) → List A → List B → Verdict Fault
-sheet-verdict number row-number xs rows =
-    want (eqb (length rows) (length xs)) (SheetLength (length xs)) then scan (alike number row-number) SheetNumber 0 xs rows
-
 -- [33] no supplier is scheduled for more than it can do
 abbrev pub capability-verdict : List Supplier → List ScheduleRow → Verdict Fault
 capability-verdict suppliers rows = scan able BeyondCapability 0 suppliers rows

@@ -1,11 +1,11 @@
 -- The turns of a loop that checks, or changes, the elements of lists in order, as far as the shorter list goes.
 use mathlib.Core.Path.{_≡_, refl, sym, _∙_, ap}
-use mathlib.Core.List.{List, [], _∷_, _++_, append-assoc, append-nil}
+use mathlib.Core.List.{List, [], _∷_}
 use mathlib.Core.Bool.{Bool, true, false}
-use mathlib.Core.Logic.{_⊎_, inl, inr}
-use Prim.Native.Nat.{ℕ, zero, suc, _+_, _<_, _≤_, min}
+use mathlib.Core.Logic.{inl, inr}
+use Prim.Native.Nat.{ℕ, _+_, _<_, _≤_, min}
 use native.Mathlib.Omega.{arith}
-use lib.ListN.{length, getD, set, take, drop}
+use lib.ListN.{length, getD, drop}
 use Rattle.std.specs.declared.result.Result.the-variants.{Err}
 use Rattle.std.proofs.shelf.Lists.{at-drop-all}
 use Rattle.std.proofs.shelf.Tests.{cases-lt}
@@ -18,11 +18,11 @@ module _ {A F : Type 0} (ok : A → Bool) (f : ℕ → F) (xs : List A) (i : ℕ
   One-so-far = scan-one ok f i (drop i xs) ≡ scan-one ok f 0 xs
 
 module _ {A F : Type 0} (ok : A → Bool) (f : ℕ → F) (xs : List A) (i : ℕ) (so-far : One-so-far ok f xs i) where
-  pub one-refuses : (x : A) → i < length xs → x ≡ getD xs i x → ok x ≡ false → Err (f i) ≡ scan-one ok f 0 xs
-  one-refuses x h e q = sym (one-bad ok f xs i x h (ap ok (sym e) ∙ q)) ∙ so-far
+  pub one-refuses : (x : A) (v : F) → i < length xs → x ≡ getD xs i x → false ≡ ok x → v ≡ f i → Err v ≡ scan-one ok f 0 xs
+  one-refuses x v h e q p = ap (λ (u : F). Err u) p ∙ sym (one-bad ok f xs i x h (ap ok (sym e) ∙ sym q)) ∙ so-far
 
-  pub one-goes-on : (x : A) → i < length xs → x ≡ getD xs i x → ok x ≡ true → One-so-far ok f xs (i + 1)
-  one-goes-on x h e q = sym (one-good ok f xs i x h (ap ok (sym e) ∙ q)) ∙ so-far
+  pub one-goes-on : (x : A) → i < length xs → x ≡ getD xs i x → true ≡ ok x → One-so-far ok f xs (i + 1)
+  one-goes-on x h e q = sym (one-good ok f xs i x h (ap ok (sym e) ∙ sym q)) ∙ so-far
 
   pub one-accepts : length xs ≤ i → accept ≡ scan-one ok f 0 xs
   one-accepts h = sym (one-end ok f xs i h) ∙ so-far
@@ -40,11 +40,11 @@ module _ {A B F : Type 0} (ok : A → B → Bool) (f : ℕ → F) (xs : List A) 
   same : (x : A) (y : B) → x ≡ getD xs i x → y ≡ getD ys i y → ok (getD xs i x) (getD ys i y) ≡ ok x y
   same x y d e = ap (λ (z : A). ok z (getD ys i y)) (sym d) ∙ ap (ok x) (sym e)
 
-  pub refuses : (x : A) (y : B) → i < length xs → i < length ys → x ≡ getD xs i x → y ≡ getD ys i y → ok x y ≡ false → Err (f i) ≡ scan ok f 0 xs ys
-  refuses x y h k d e q = sym (scan-bad ok f xs ys i x y h k (same x y d e ∙ q)) ∙ so-far
+  pub refuses : (x : A) (y : B) (v : F) → i < length xs → i < length ys → x ≡ getD xs i x → y ≡ getD ys i y → false ≡ ok x y → v ≡ f i → Err v ≡ scan ok f 0 xs ys
+  refuses x y v h k d e q p = ap (λ (u : F). Err u) p ∙ sym (scan-bad ok f xs ys i x y h k (same x y d e ∙ sym q)) ∙ so-far
 
-  pub goes-on : (x : A) (y : B) → i < length xs → i < length ys → x ≡ getD xs i x → y ≡ getD ys i y → ok x y ≡ true → So-far ok f xs ys (i + 1)
-  goes-on x y h k d e q = sym (scan-good ok f xs ys i x y h k (same x y d e ∙ q)) ∙ so-far
+  pub goes-on : (x : A) (y : B) → i < length xs → i < length ys → x ≡ getD xs i x → y ≡ getD ys i y → true ≡ ok x y → So-far ok f xs ys (i + 1)
+  goes-on x y h k d e q = sym (scan-good ok f xs ys i x y h k (same x y d e ∙ sym q)) ∙ so-far
 
   pub accepts-all : min (length xs) (length ys) ≤ i → accept ≡ scan ok f 0 xs ys
   accepts-all h = elim (cases-lt i (length xs)) [

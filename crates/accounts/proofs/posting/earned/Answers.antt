@@ -1,7 +1,7 @@
 use mathlib.Core.Path.{_≡_}
-use Prim.Native.Nat.{_≤_, _^_}
+use Prim.Native.Nat.{ℕ, _≤_, _^_}
 use native.Mathlib.Omega.{arith}
-use lib.IntN.{ℤ, pos, natAbs, _+ℤ_}
+use lib.IntN.{ℤ, pos, natAbs, _+ℤ_, _-ℤ_, _*ℤ_}
 use mir.Val.{SFits, toZ, ofZ}
 use mir.Syntax.{w128}
 use Rattle.std.proofs.shelf.Signed.{ints, toZ-ofZ}
@@ -18,9 +18,15 @@ three x y z a b d p q r e f g =
     let fxyz : SFits w128 ((x +ℤ y) +ℤ z) = omega (arith, ints) in
     simp toZ-ofZ (omega (arith, ints))
 
+abbrev part : ℕ → ℕ → ℕ → ℤ
+part price scheduled paid = pos price *ℤ (pos scheduled -ℤ pos paid)
+
 pub returns : need.returns
 returns c =
+    let q = c .args .prices .now in
+    let r = c .args .scheduled .now in
+    let p = c .args .paid .now in
     let x = c .product-earned-thirty in
     let y = c .product-earned-ten in
     let z = c .product-earned-spinning in
-    three (x .result) (y .result) (z .result) _ _ _ (x .ensures .bound) (y .ensures .bound) (z .ensures .bound) (x .ensures .value) (y .ensures .value) (z .ensures .value)
+    three (x .result) (y .result) (z .result) (part (q .thirty) (r .thirty) (p .thirty)) (part (q .ten) (r .ten) (p .ten)) (part (q .spinning) (r .spinning) (p .spinning)) (x .ensures .bound) (y .ensures .bound) (z .ensures .bound) (x .ensures .value) (y .ensures .value) (z .ensures .value)

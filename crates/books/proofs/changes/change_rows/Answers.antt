@@ -1,4 +1,4 @@
-use mathlib.Core.Path.{sym, _∙_, ap}
+use mathlib.Core.Path.{sym, _∙_}
 use native.Mathlib.Omega.{arith}
 use Rattle.books.proofs.Changing.{changed-none, changed-more, changed-all}
 use Rattle.books.proofs.changes.change_rows.Needs as need
@@ -9,8 +9,7 @@ loop-i-holds g c = sym (changed-none (g .C·RowChange .changed (c .args .change 
 pub loop-i-again : need.loop-i-again
 loop-i-again g c =
     let f = g .C·RowChange .changed (c .args .change .now) in
-    changed-more f (c .args .accounts .now) (c .loop-i .accounts) (c .args .rows .now) (c .loop-i .i) (c .index-accounts-i .result) (c .index-rows-i .result) (c .changed .result) (omega arith) (omega arith) (c .loop-i .inv) (c .index-accounts-i .is) (c .index-rows-i .is)
-    (c .changed .ensures ∙ ap (λ x. f x (c .index-rows-i .result)) (sym (c .index-accounts-i .is)))
+    changed-more f (c .args .accounts .now) (c .loop-i .accounts) (c .args .rows .now) (c .loop-i .i) (c .index-accounts-i .result) (c .index-rows-i .result) (c .changed .result) (omega arith) (omega arith) (c .loop-i .inv) (c .index-rows-i .is) (c .changed .ensures)
 
 pub returns : need.returns
 returns g c =

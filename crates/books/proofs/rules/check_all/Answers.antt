@@ -1,7 +1,4 @@
-use mathlib.Core.Path.{sym, _∙_, ap}
 use native.Mathlib.Omega.{arith}
-use Rattle.faults.specs.declared.fault.Fault.{Fault}
-use Rattle.std.specs.declared.result.Result.the-variants.{Err}
 use Rattle.sums.proofs.Walks.{one-refuses, one-goes-on, one-accepts}
 use Rattle.books.proofs.rules.check_all.Needs as need
 
@@ -9,14 +6,13 @@ pub returns-then-not-keeps : need.returns-then-not-keeps
 returns-then-not-keeps g c =
     let ok = g .R·Rule .keeps (c .args .rule .now) in
     let f = g .R·Rule .breach (c .args .rule .now) in
-    ap (λ (x : Fault). Err x) (c .breach .ensures)
-    ∙ one-refuses ok f (c .args .items .now) (c .loop-i .i) (c .loop-i .inv) (c .index-items-i .result) (omega arith) (c .index-items-i .is) (sym (c .if-not-keeps .ensures tt))
+    one-refuses ok f (c .args .items .now) (c .loop-i .i) (c .loop-i .inv) (c .index-items-i .result) (c .breach .result) (omega arith) (c .index-items-i .is) (c .if-not-keeps .ensures tt) (c .breach .ensures)
 
 pub loop-i-again : need.loop-i-again
 loop-i-again g c =
     let ok = g .R·Rule .keeps (c .args .rule .now) in
     let f = g .R·Rule .breach (c .args .rule .now) in
-    one-goes-on ok f (c .args .items .now) (c .loop-i .i) (c .loop-i .inv) (c .index-items-i .result) (omega arith) (c .index-items-i .is) (sym (c .if-not-keeps .ensures tt))
+    one-goes-on ok f (c .args .items .now) (c .loop-i .i) (c .loop-i .inv) (c .index-items-i .result) (omega arith) (c .index-items-i .is) (c .if-not-keeps .ensures tt)
 
 pub returns : need.returns
 returns g c =

@@ -1,8 +1,4 @@
-use mathlib.Core.Path.{sym, _∙_, ap}
 use native.Mathlib.Omega.{arith}
-use Rattle.faults.specs.declared.fault.Fault.{Fault}
-use Rattle.std.specs.declared.result.Result.the-variants.{Err}
-use Rattle.sums.specs.Verdict.{Verdict}
 use Rattle.sums.proofs.Walks.{refuses, goes-on, accepts-all}
 use Rattle.books.proofs.rules.check_rows.Needs as need
 
@@ -10,15 +6,13 @@ pub returns-then-not-keeps : need.returns-then-not-keeps
 returns-then-not-keeps g c =
     let ok = g .R·RowRule .keeps (c .args .rule .now) in
     let f = g .R·RowRule .breach (c .args .rule .now) in
-    let b : Verdict Fault = Err (c .breach .result) in
-    ap (λ (x : Fault). Err x) (c .breach .ensures)
-    ∙ refuses ok f (c .args .accounts .now) (c .args .rows .now) (c .loop-i .i) (c .loop-i .inv) (c .index-accounts-i .result) (c .index-rows-i .result) (omega arith) (omega arith) (c .index-accounts-i .is) (c .index-rows-i .is) (sym (c .if-not-keeps .ensures tt))
+    refuses ok f (c .args .accounts .now) (c .args .rows .now) (c .loop-i .i) (c .loop-i .inv) (c .index-accounts-i .result) (c .index-rows-i .result) (c .breach .result) (omega arith) (omega arith) (c .index-accounts-i .is) (c .index-rows-i .is) (c .if-not-keeps .ensures tt) (c .breach .ensures)
 
 pub loop-i-again : need.loop-i-again
 loop-i-again g c =
     let ok = g .R·RowRule .keeps (c .args .rule .now) in
     let f = g .R·RowRule .breach (c .args .rule .now) in
-    goes-on ok f (c .args .accounts .now) (c .args .rows .now) (c .loop-i .i) (c .loop-i .inv) (c .index-accounts-i .result) (c .index-rows-i .result) (omega arith) (omega arith) (c .index-accounts-i .is) (c .index-rows-i .is) (sym (c .if-not-keeps .ensures tt))
+    goes-on ok f (c .args .accounts .now) (c .args .rows .now) (c .loop-i .i) (c .loop-i .inv) (c .index-accounts-i .result) (c .index-rows-i .result) (omega arith) (omega arith) (c .index-accounts-i .is) (c .index-rows-i .is) (c .if-not-keeps .ensures tt)
 
 pub returns : need.returns
 returns g c =

@@ -1,10 +1,8 @@
-use mathlib.Core.Path.{_∙_, ap}
-use Rattle.std.specs.Options.{isSome}
 use Rattle.accounts.specs.Posting.{settle, settles}
-use Rattle.accounts.proofs.Outcome.{some-when}
+use Rattle.accounts.proofs.Outcome.{tells-test}
 use Rattle.books.proofs.closing.SettlingRule.keeps.Needs as need
 
 pub returns : need.returns
 returns c =
     let a = c .args .item .now in
-    c .is-some .ensures ∙ ap isSome (c .settled .ensures) ∙ some-when (settles a) (settle a)
+    tells-test (settles a) (c .is-some .result) (settle a) (c .settled .result) (c .is-some .ensures) (c .settled .ensures)

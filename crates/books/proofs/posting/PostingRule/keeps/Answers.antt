@@ -1,8 +1,6 @@
-use mathlib.Core.Path.{_∙_, ap}
-use Rattle.std.specs.Options.{isSome}
 use Rattle.accounts.specs.Posting.{stays}
 use Rattle.accounts.specs.Terms.{post-by}
-use Rattle.accounts.proofs.Outcome.{some-when}
+use Rattle.accounts.proofs.Outcome.{tells-test}
 use Rattle.books.proofs.posting.PostingRule.keeps.Needs as need
 
 pub returns : need.returns
@@ -10,4 +8,4 @@ returns c =
     let t = c .args .self .now in
     let a = c .args .account .now in
     let w = c .args .row .now in
-    c .is-some .ensures ∙ ap isSome (c .posted .ensures) ∙ some-when (stays (post-by t) a w) (post-by t a (w .reserves))
+    tells-test (stays (post-by t) a w) (c .is-some .result) (post-by t a (w .reserves)) (c .posted .result) (c .is-some .ensures) (c .posted .ensures)
