@@ -1,5 +1,5 @@
 # Sourced by scripts: stops with a plain message where something they need is missing.
-for tool in rt python3; do
+for tool in rt python3 rustc; do
     if ! command -v "$tool" >/dev/null 2>&1; then
         case $tool in
         rt) echo "The Rattle toolchain is missing: put its command 'rt' on PATH (README.md names the version)." >&2 ;;
