@@ -49,7 +49,7 @@ pub impl Numbered for WithdrawalRow as WithdrawalNumbered {
 
 /// A customer's part of the whole is its net withdrawal.
 pub impl Portion for WithdrawalRow as WithdrawalPortion {
-    ghost portion = { λ w. netted w };
+    ghost portion = { λ w. net w };
 
     fn portion(&self) -> u64 {
         self.net()

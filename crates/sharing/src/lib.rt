@@ -58,5 +58,3 @@ pub fn sharing_figures() -> u8
     0
 }
 
-#[cfg(test)]
-mod tests;
