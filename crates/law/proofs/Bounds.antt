@@ -78,11 +78,14 @@ abs-times : (z : ℤ) (d : ℕ) → natAbs (z *ℤ pos d) ≡ natAbs z * d
 abs-times (pos n) d = refl
 abs-times (negsuc n) d = abs-neg (suc n * d)
 
--- d more seconds at no more than t each
+-- d seconds at no more than t each
+pub for-time : (z : ℤ) (d t : ℕ) → natAbs z ≤ t → natAbs (z *ℤ pos d) ≤ t * d
+for-time z d t h = rw (abs-times z d) (mul-le-mul-right d h)
+
+-- and on top of n others
 pub grown-within : (c x : ℤ) (t n d : ℕ) → natAbs c ≤ t * n → natAbs x ≤ t → natAbs (c +ℤ x *ℤ pos d) ≤ t * (n + d)
 grown-within c x t n d h k =
-    let l : natAbs (x *ℤ pos d) ≤ t * d = rw (abs-times x d) (mul-le-mul-right d k) in
-    lin c (x *ℤ pos d) (t * n) (t * d) (t * (n + d)) (mul-add t n d) h l
+    lin c (x *ℤ pos d) (t * n) (t * d) (t * (n + d)) (mul-add t n d) h (for-time x d t k)
   where
     lin : (a b : ℤ) (p q s : ℕ) → s ≡ p + q → natAbs a ≤ p → natAbs b ≤ q → natAbs (a +ℤ b) ≤ s
     lin a b p q s e h k = omega (arith, ints)
