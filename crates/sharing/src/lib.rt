@@ -57,4 +57,3 @@ pub fn sharing_figures() -> u8
 {
     0
 }
-
