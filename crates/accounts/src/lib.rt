@@ -2,6 +2,8 @@
 //!
 //! Accounts stand in tables that the caller owns, and no type vouches for what those hold: each call
 //! that posts to an account checks its ranges first.
+#![tactic(auto)]
+
 ghost use Rattle.accounts.specs.Figures.{AccountFigures};
 ghost use Rattle.accounts.specs.Laws.{TermsKeepRule};
 

@@ -3,6 +3,8 @@
 //! A book is a table that the caller owns, with a count. Checks take its accounts and tell the first
 //! place that is at fault; writes change every account in place. Once the check that goes with a write
 //! has accepted, the write does to every account what the rules say.
+#![tactic(auto)]
+
 ghost use Rattle.books.specs.Laws.{AcceptedWrites};
 
 mod book;

@@ -3,6 +3,8 @@
 //! A curve tells what a requirement's shortage is worth: the price of the first step whose margin,
 //! on top of the quantity, is within the target. Every `Curve` and every `CurveBook` that exists is
 //! sound; loading refuses anything else, and then leaves what was there.
+#![tactic(auto)]
+
 ghost use Rattle.curves.specs.Steps.{JudgedLaw};
 ghost use Rattle.curves.specs.Value.{ValueLaw};
 

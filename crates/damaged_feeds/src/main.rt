@@ -3,6 +3,8 @@
 //! The set comes by standard input: for each feed its length in four bytes, the lowest first, and then
 //! its bytes. A line is printed for each: how many records are whole, and then `end`, or the number and
 //! the offset of the refusal.
+#![tactic(auto)]
+
 ghost use Rattle.damaged_feeds.specs.Cases.{Splits};
 
 use feed::{Survey, survey_feed};

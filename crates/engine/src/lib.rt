@@ -6,6 +6,8 @@
 //!
 //! The contract of `advance` goes from the bytes of a record to the bytes of its lines, and has the law of all
 //! runs.
+#![tactic(auto)]
+
 mod advancing;
 mod calls;
 mod courses;

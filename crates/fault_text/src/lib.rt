@@ -1,4 +1,6 @@
 //! Faults in plain words, one line each. What is written is tested, not proved.
+#![tactic(auto)]
+
 use faults::{Fault, Layer};
 use std::fmt;
 

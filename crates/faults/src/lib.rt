@@ -3,6 +3,8 @@
 //! `Fault` has one variant for each cause, with the values that a refusal tells. What each variant
 //! tells (its number, its layer, its values) is defined once, in specs/Told.antt, and `told` answers
 //! that definition. A fault passes upward unaltered, by `?`.
+#![tactic(auto)]
+
 ghost use Rattle.std.specs.Prelude.{◌≡◌, Some, None};
 ghost use Rattle.faults.specs.Told.{tells, told_of};
 

@@ -1,4 +1,6 @@
 //! Reading what comes in as bytes.
+#![tactic(auto)]
+
 ghost use Rattle.feed.specs.CurveFile.{FileLaw};
 
 mod curve_file;

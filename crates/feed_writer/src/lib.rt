@@ -1,4 +1,6 @@
 //! Writing what a feed and a curve book file hold as bytes.
+#![tactic(auto)]
+
 ghost use Rattle.feed_writer.specs.Laws.{RecordBackLaw, FeedBackLaw};
 
 mod curve_file;

@@ -1,4 +1,6 @@
 //! Worked figures, proved through the definitions that the contracts cite, and through the code.
+#![tactic(auto)]
+
 ghost use Rattle.std.specs.Prelude.{◌≡◌};
 ghost use Rattle.figures.specs.Figures.{Figures};
 

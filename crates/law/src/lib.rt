@@ -1,5 +1,7 @@
 //! The model of the ledger (specs/) and the law that every run of it keeps (proofs/). The functions
 //! below only name what is proved.
+#![tactic(auto)]
+
 ghost use Rattle.std.specs.Prelude.{List};
 ghost use Rattle.law.specs.Ledger.{State};
 ghost use Rattle.law.specs.Run.{Fed, Run};

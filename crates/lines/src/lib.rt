@@ -2,6 +2,8 @@
 //!
 //! Lines are written from the end of a buffer toward its front: a number's last digit comes first out
 //! of the divisions, and so no length has to be known before a line stands.
+#![tactic(auto)]
+
 mod closing;
 mod digits;
 mod line;

@@ -1,4 +1,6 @@
 //! Location maps: which reserve product at which location counts toward which requirement.
+#![tactic(auto)]
+
 ghost use Rattle.maps.specs.Tree.{TreeRepliesAsFixed, TenStepsFindAncestors};
 
 mod fixed_map;

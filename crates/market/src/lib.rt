@@ -1,4 +1,6 @@
 //! Clearing prices, quantities and their laws, over any location map.
+#![tactic(auto)]
+
 ghost use Rattle.std.specs.Prelude.{ℕ, List};
 ghost use Rattle.maps.specs.Market.{Market};
 ghost use Rattle.market.specs.Laws.{BetterNeverCheaper, CostIsEarned};

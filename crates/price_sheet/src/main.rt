@@ -3,6 +3,8 @@
 //!
 //! It reads the curve book file `curves.bin` in the working folder and, from standard input, one
 //! claim to a line: shadow price, target and quantity of the requirement whose turn it is.
+#![tactic(auto)]
+
 ghost use Rattle.std.specs.Prelude.{◌≡◌, ℕ, IfOk, slice_index, slice_index_or};
 ghost use Rattle.sums.specs.Verdict.{told};
 ghost use Rattle.curves.specs.Book.{curves_of};

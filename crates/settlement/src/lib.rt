@@ -2,6 +2,8 @@
 //!
 //! The contract of `step` has the law of all runs, whole: after any steps that led here, it holds after
 //! this one too.
+#![tactic(auto)]
+
 mod call;
 mod course;
 

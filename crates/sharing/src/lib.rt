@@ -1,4 +1,6 @@
 //! Sharing an hour's cost: rules that share whole cents among parts, and the grains carried on.
+#![tactic(auto)]
+
 ghost use Rattle.sharing.specs.Shares.{SharingLaw};
 ghost use Rattle.sharing.specs.Ends.{BetweenTheEnds, RunningSharesAll};
 ghost use Rattle.sharing.specs.Figures.{SharingFigures};

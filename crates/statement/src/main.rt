@@ -3,6 +3,8 @@
 //!
 //! It uses the fixed map, the running rule, and the curve book file `curves.bin` of the folder that it is
 //! started in. The rules are the engine's; here are only the streams and the buffers.
+#![tactic(auto)]
+
 mod curves_file;
 mod house;
 mod problem;

@@ -1,5 +1,7 @@
 //! Sums, floor division and chains of checks: definitions (specs/) and lemmas (proofs/) that the
 //! other crates share. It knows nothing of the subject. The functions below only name the laws.
+#![tactic(auto)]
+
 ghost use Rattle.sums.specs.Laws.{SumsExchange, FloorDivides, FirstFailureTold};
 
 /// A double sum may be taken in either order.
