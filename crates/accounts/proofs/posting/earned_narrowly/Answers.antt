@@ -21,7 +21,7 @@ returns c =
     let q = c.args.prices.now in
     let r = c.args.scheduled.now in
     let p = c.args.paid.now in
-    let x = c.product-earned-narrowly-thirty in
-    let y = c.product-earned-narrowly-ten in
-    let z = c.product-earned-narrowly-spinning in
+    let x = c.product_earned_narrowly-thirty in
+    let y = c.product_earned_narrowly-ten in
+    let z = c.product_earned_narrowly-spinning in
     three x.result y.result z.result (part q.thirty r.thirty p.thirty) (part q.ten r.ten p.ten) (part q.spinning r.spinning p.spinning) x.ensures.bound y.ensures.bound z.ensures.bound x.ensures.value y.ensures.value z.ensures.value

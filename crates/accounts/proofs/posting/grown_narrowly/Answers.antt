@@ -28,18 +28,18 @@ module _ (h x : ℤ) (n : ℕ) (fh : SFits w64 h) (fx : SFits w64 x) (small : na
   stored_is : to_z w64 (of_z w64 (to_z w64 (of_z w64 h) +ℤ to_z w64 (of_z w64 (to_z w64 (of_z w64 x) *ℤ to_z w64 n)))) ≡ h +ℤ x *ℤ pos n
   stored_is = ap (λ (z : ℤ). to_z w64 (of_z w64 z)) sum_is ∙ to_z-of_z w64 _ sum_fits
 
-pub overflow-mul-sum : goal.overflow-mul-sum
-overflow-mul-sum c = rw (product_is c.args.amount c.args.in-second c.args.seconds c.ranges.amount c.ranges.in-second c.requires.amount c.requires.earned c.requires.time) (product_fits c.args.amount c.args.in-second c.args.seconds c.ranges.amount c.ranges.in-second c.requires.amount c.requires.earned c.requires.time)
+pub overflow_mul-sum : goal.overflow_mul-sum
+overflow_mul-sum c = rw (product_is c.args.amount c.args.in_second c.args.seconds c.ranges.amount c.ranges.in_second c.requires.amount c.requires.earned c.requires.time) (product_fits c.args.amount c.args.in_second c.args.seconds c.ranges.amount c.ranges.in_second c.requires.amount c.requires.earned c.requires.time)
 
-pub overflow-add-sum : goal.overflow-add-sum
-overflow-add-sum c = rw (sum_is c.args.amount c.args.in-second c.args.seconds c.ranges.amount c.ranges.in-second c.requires.amount c.requires.earned c.requires.time) (sum_fits c.args.amount c.args.in-second c.args.seconds c.ranges.amount c.ranges.in-second c.requires.amount c.requires.earned c.requires.time)
+pub overflow_add-sum : goal.overflow_add-sum
+overflow_add-sum c = rw (sum_is c.args.amount c.args.in_second c.args.seconds c.ranges.amount c.ranges.in_second c.requires.amount c.requires.earned c.requires.time) (sum_fits c.args.amount c.args.in_second c.args.seconds c.ranges.amount c.ranges.in_second c.requires.amount c.requires.earned c.requires.time)
 
-pub returns-then-in-range : goal.returns-then-in-range
-returns-then-in-range c =
-    let is = stored_is c.args.amount c.args.in-second c.args.seconds c.ranges.amount c.ranges.in-second c.requires.amount c.requires.earned c.requires.time in
-    gives (amount_fits_lem (c.args.amount +ℤ c.args.in-second *ℤ pos c.args.seconds)) (c.args.amount +ℤ c.args.in-second *ℤ pos c.args.seconds) _ (sym (c.if-in-range.ensures.value ∙ ap amount_fits_lem is)) is
+pub returns-then-in_range : goal.returns-then-in_range
+returns-then-in_range c =
+    let is = stored_is c.args.amount c.args.in_second c.args.seconds c.ranges.amount c.ranges.in_second c.requires.amount c.requires.earned c.requires.time in
+    gives (amount_fits_lem (c.args.amount +ℤ c.args.in_second *ℤ pos c.args.seconds)) (c.args.amount +ℤ c.args.in_second *ℤ pos c.args.seconds) _ (sym (c.if-in_range.ensures.value ∙ ap amount_fits_lem is)) is
 
-pub returns-else-in-range : goal.returns-else-in-range
-returns-else-in-range c =
-    let is = stored_is c.args.amount c.args.in-second c.args.seconds c.ranges.amount c.ranges.in-second c.requires.amount c.requires.earned c.requires.time in
-    ap (λ b. provided b (c.args.amount +ℤ c.args.in-second *ℤ pos c.args.seconds)) (c.if-in-range.ensures.value ∙ ap amount_fits_lem is)
+pub returns-else-in_range : goal.returns-else-in_range
+returns-else-in_range c =
+    let is = stored_is c.args.amount c.args.in_second c.args.seconds c.ranges.amount c.ranges.in_second c.requires.amount c.requires.earned c.requires.time in
+    ap (λ b. provided b (c.args.amount +ℤ c.args.in_second *ℤ pos c.args.seconds)) (c.if-in_range.ensures.value ∙ ap amount_fits_lem is)

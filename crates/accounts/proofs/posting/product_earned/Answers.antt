@@ -23,8 +23,8 @@ module _ (p x y : ℕ) (hp : p < 2 ^ 64) (hx : x < 2 ^ 32) (hy : y < 2 ^ 32) whe
   fits : SFits w128 (pos p *ℤ (pos x -ℤ pos y))
   fits = let b = bound in omega (arith, ints)
 
-pub overflow-mul-result : goal.overflow-mul-result
-overflow-mul-result c =
+pub overflow_mul-result : goal.overflow_mul-result
+overflow_mul-result c =
     let p = c.args.price in
     let x = c.args.scheduled in
     let y = c.args.paid in

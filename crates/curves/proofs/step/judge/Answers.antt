@@ -10,8 +10,8 @@ loop-i-preserved c =
     sym (every_good (step_ok c.args.steps.now) (CurveSteps c.args.number) c.loop-i.i (length c.args.steps.now) (omega arith) (search rules))
     ∙ c.loop-i.invariant
 
-pub returns-then-not-is-sound : goal.returns-then-not-is-sound
-returns-then-not-is-sound c = record {
+pub returns-then-not-is_sound : goal.returns-then-not-is_sound
+returns-then-not-is_sound c = record {
   reply =
       sym (every_bad (step_ok c.args.steps.now) (CurveSteps c.args.number) c.loop-i.i (length c.args.steps.now) (omega arith) (search rules))
       ∙ c.loop-i.invariant;

@@ -16,7 +16,7 @@ returns-in-Ok g c =
     c.in-Ok.is c.requires.1 c.apply-next.ensures
     c.hour-hour.result _ _ _
     c.hour-hour.ensures
-    (noted_cents (λ a. a.cents) 128 c.note-cents-n.result _ (suppliers c.args.suppliers.now) _ c.note-cents-n.new.noted c.accounts.ensures.all c.accounts.ensures.few (omega arith) c.note-cents-n.ensures)
-    (noted_cents (λ a. a.cents) 256 c.note-cents-k.result _ (customers c.args.customers.now) _ c.note-cents-k.new.noted c.accounts-2.ensures.all c.accounts-2.ensures.few (omega arith) c.note-cents-k.ensures)
+    (noted_cents (λ a. a.cents) 128 c.note_cents-n.result _ (suppliers c.args.suppliers.now) _ c.note_cents-n.new.noted c.accounts.ensures.all c.accounts.ensures.few (omega arith) c.note_cents-n.ensures)
+    (noted_cents (λ a. a.cents) 256 c.note_cents-k.result _ (customers c.args.customers.now) _ c.note_cents-k.new.noted c.accounts-2.ensures.all c.accounts-2.ensures.few (omega arith) c.note_cents-k.ensures)
     (to_z-of_z w64 c.carry-carry.result fits ∙ c.carry-carry.ensures)
-    c.write-closing-lines.ensures.text
+    c.write_closing-lines.ensures.text

@@ -5,6 +5,6 @@ use Rattle.feed.proofs.curve_file.read_steps.Goals as goal
 
 pub loop-i-preserved : goal.loop-i-preserved
 loop-i-preserved c = (
-  written (step_in c.args.bytes.now) c.loop-i.all c.args.first c.loop-i.i _ (omega arith) c.read-step.ensures c.loop-i.invariant.0,
+  written (step_in c.args.bytes.now) c.loop-i.all c.args.first c.loop-i.i _ (omega arith) c.read_step.ensures c.loop-i.invariant.0,
   simp length-set c.loop-i.invariant.1,
 )

@@ -4,8 +4,8 @@ use Rattle.feed_writer.specs.CurveBytes.{all_steps}
 use Rattle.feed_writer.proofs.Steps.{curve_counted, all_taken}
 use Rattle.feed_writer.proofs.curve_file.count_steps.Goals as goal
 
-pub overflow-add-count : goal.overflow-add-count
-overflow-add-count c = let f = c.steps.ensures.law.few in search rules
+pub overflow_add-count : goal.overflow_add-count
+overflow_add-count c = let f = c.steps.ensures.law.few in search rules
 
 pub loop-curve-preserved : goal.loop-curve-preserved
 loop-curve-preserved c =

@@ -10,13 +10,13 @@ use Rattle.feed_writer.proofs.curve_file.put_column.Goals as goal
 pub loop-curve-init : goal.loop-curve-init
 loop-curve-init c = (omega arith, column_none c.args.column c.args.at c.args.out.now)
 
-pub put-steps-requires : goal.put-steps-requires
-put-steps-requires c =
+pub put_steps-requires : goal.put_steps-requires
+put_steps-requires c =
     let w = curve_within c.args.curves.now c.loop-curve.curve-index c.curve-item.result c.steps-steps.result.now c.loop-curve-test.true c.curve-item.is c.steps-steps.ensures.value in
     omega arith
 
-pub overflow-add-next : goal.overflow-add-next
-overflow-add-next c =
+pub overflow_add-next : goal.overflow_add-next
+overflow_add-next c =
     let w = curve_within c.args.curves.now c.loop-curve.curve-index c.curve-item.result c.steps-steps.result.now c.loop-curve-test.true c.curve-item.is c.steps-steps.ensures.value in
     search rules
 
@@ -31,7 +31,7 @@ loop-curve-preserved c =
     let b = length_column c.args.column ss in (
       omega arith,
       follows c.args.at c.loop-curve.next (column_bytes c.args.column before) (column_bytes c.args.column ss) c.args.out.now c.loop-curve.out _
-          c.loop-curve.invariant.1 c.put-steps.ensures (omega arith) (omega arith)
+          c.loop-curve.invariant.1 c.put_steps.ensures (omega arith) (omega arith)
           ∙ ap (λ (bs : List ℕ). written c.args.at bs c.args.out.now) (sym (column_more c.args.column before ss) ∙ ap (column_bytes c.args.column) (sym m)),
     )
 

@@ -20,7 +20,7 @@ loop-i-preserved c =
     let l : length cs ≡ length c.args.curves.now = length-map c.args.curves.now steps_of in
     let p = at_place c.args.curves.now c.loop-i.i c.index-curves-i.result ss c.loop-i-test.true c.index-curves-i.is c.steps.ensures.value in
     rows_more (λ ss. bytes16 (length ss)) 2 (λ ss. length_bytes16 (length ss)) c.args.at cs c.args.out.now
-    (c.args.at + 2 * c.loop-i.i) c.loop-i.i ss c.loop-i.out _ (omega arith) (p ∙ get_or_default cs c.loop-i.i [] ss (omega arith)) (omega arith) (omega arith) c.loop-i.invariant c.put-u16.ensures
+    (c.args.at + 2 * c.loop-i.i) c.loop-i.i ss c.loop-i.out _ (omega arith) (p ∙ get_or_default cs c.loop-i.i [] ss (omega arith)) (omega arith) (omega arith) c.loop-i.invariant c.put_u16.ensures
 
 pub returns : goal.returns
 unfolding count_bytes

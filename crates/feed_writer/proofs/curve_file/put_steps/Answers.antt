@@ -17,7 +17,7 @@ loop-i-preserved c =
     rows_more (λ s. bytes32 (number_of c.args.column s)) 4 (λ s. length_bytes32 (number_of c.args.column s)) c.args.at c.args.steps.now c.args.out.now
     (c.args.at + 4 * c.loop-i.i) c.loop-i.i (get_or c.args.steps.now c.loop-i.i no_step) c.loop-i.out _
     c.loop-i-test.true (get_or_default c.args.steps.now c.loop-i.i no_step _ c.loop-i-test.true) (omega arith) (omega arith) c.loop-i.invariant
-    (c.put-u32.ensures ∙ ap (λ (n : ℕ). written (c.args.at + 4 * c.loop-i.i) (bytes32 n) c.loop-i.out) c.of.ensures)
+    (c.put_u32.ensures ∙ ap (λ (n : ℕ). written (c.args.at + 4 * c.loop-i.i) (bytes32 n) c.loop-i.out) c.of.ensures)
 
 pub returns : goal.returns
 unfolding column_bytes

@@ -23,13 +23,13 @@ returns c =
     let b = length_counts cs in
     let d = length_column Margins (all_steps cs) in
     let e = length_column Prices (all_steps cs) in
-    let s = c.count-steps-steps.ensures.value in
-    let needed : ℕ = 2 + 2 * length curves + 8 * c.count-steps-steps.result in
-    let first = c.put-u16.ensures ∙ ap (λ (k : ℕ). written 0 (bytes16 k) c.args.buffer.now) (sym n) in
-    let P : List (List Step) → Type 0 = λ ds. WroteFile ds (Ok needed) c.args.buffer.now c.put-column-2.new.out in
+    let s = c.count_steps-steps.ensures.value in
+    let needed : ℕ = 2 + 2 * length curves + 8 * c.count_steps-steps.result in
+    let first = c.put_u16.ensures ∙ ap (λ (k : ℕ). written 0 (bytes16 k) c.args.buffer.now) (sym n) in
+    let P : List (List Step) → Type 0 = λ ds. WroteFile ds (Ok needed) c.args.buffer.now c.put_column-2.new.out in
     subst P c.curves-curves.ensures.value
-    (wrote_file cs few law needed c.args.buffer.now c.put-column-2.new.out (omega (arith, c.curves-curves.ensures.some)) (omega arith) (omega arith)
+    (wrote_file cs few law needed c.args.buffer.now c.put_column-2.new.out (omega (arith, c.curves-curves.ensures.some)) (omega arith) (omega arith)
     (follows _ _ _ _ _ _ _ (follows _ _ _ _ _ _ _ (follows _ _ _ _ _ _ _ first
-    c.put-counts.ensures (omega arith) (omega arith))
-    c.put-column.ensures (simp length-append (omega arith)) (omega arith))
-    c.put-column-2.ensures (simp length-append (omega arith)) (omega arith)))
+    c.put_counts.ensures (omega arith) (omega arith))
+    c.put_column.ensures (simp length-append (omega arith)) (omega arith))
+    c.put_column-2.ensures (simp length-append (omega arith)) (omega arith)))

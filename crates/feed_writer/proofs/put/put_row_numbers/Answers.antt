@@ -11,8 +11,8 @@ pub loop-i-preserved : goal.loop-i-preserved
 loop-i-preserved g c = (
   rows_more (λ r. bytes32 (g.R.Numbered.numbered r)) 4 (λ r. length_bytes32 (g.R.Numbered.numbered r)) c.args.at c.args.rows.now c.args.out.now (c.args.at + 4 * c.loop-i.i) c.loop-i.i _ c.loop-i.out _
       c.loop-i-test.true (search rules) (omega arith) (omega arith) c.loop-i.invariant.0
-      (c.put-u32.ensures ∙ ap (λ (n : ℕ). written (c.args.at + 4 * c.loop-i.i) (bytes32 n) c.loop-i.out) c.number.ensures),
-  each_more (λ r. Word (g.R.Numbered.numbered r)) c.args.rows.now c.loop-i.i c.index-rows-i.result c.loop-i-test.true c.index-rows-i.is c.loop-i.invariant.1 (omega (arith, c.number.ensures, c.number.type-inv)),
+      (c.put_u32.ensures ∙ ap (λ (n : ℕ). written (c.args.at + 4 * c.loop-i.i) (bytes32 n) c.loop-i.out) c.number.ensures),
+  each_more (λ r. Word (g.R.Numbered.numbered r)) c.args.rows.now c.loop-i.i c.index-rows-i.result c.loop-i-test.true c.index-rows-i.is c.loop-i.invariant.1 (omega (arith, c.number.ensures, c.number.type_inv)),
 )
 
 pub returns : goal.returns

@@ -6,14 +6,14 @@ use Rattle.feed_writer.proofs.put.put_schedule_row.Goals as goal
 pub returns : goal.returns
 unfolding schedule_bytes bytes32
 returns c =
-    let z : c.cast-unsigned.result ≡ of_z w32 c.args.row.now.energy = search rules in
-    let e = c.put-u32.ensures ∙ ap (λ y. written c.args.at (bytes32 y) c.args.out.now) z in
+    let z : c.cast_unsigned.result ≡ of_z w32 c.args.row.now.energy = search rules in
+    let e = c.put_u32.ensures ∙ ap (λ y. written c.args.at (bytes32 y) c.args.out.now) z in
     record {
       holds =
           follows _ _ _ _ _ _ _ (follows _ _ _ _ _ _ _ (follows _ _ _ _ _ _ _ (follows _ _ _ _ _ _ _ e
-          c.put-u32-2.ensures (omega arith) (omega arith))
-          c.put-u32-3.ensures (omega arith) (omega arith))
-          c.put-u32-4.ensures (omega arith) (omega arith))
-          c.put-u32-5.ensures (omega arith) (omega arith);
+          c.put_u32-2.ensures (omega arith) (omega arith))
+          c.put_u32-3.ensures (omega arith) (omega arith))
+          c.put_u32-4.ensures (omega arith) (omega arith))
+          c.put_u32-5.ensures (omega arith) (omega arith);
       fits = search rules;
     }

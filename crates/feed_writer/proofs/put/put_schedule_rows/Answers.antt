@@ -10,8 +10,8 @@ loop-i-init c = (rows_none schedule_bytes 20 length_schedule_bytes c.args.at c.a
 pub loop-i-preserved : goal.loop-i-preserved
 loop-i-preserved c = (
   rows_more schedule_bytes 20 length_schedule_bytes c.args.at c.args.rows.now c.args.out.now _ c.loop-i.i _ c.loop-i.out _
-      c.loop-i-test.true (search rules) (omega arith) (omega arith) c.loop-i.invariant.0 c.put-schedule-row.ensures.holds,
-  each_more ScheduleFits c.args.rows.now c.loop-i.i _ c.loop-i-test.true (search rules) c.loop-i.invariant.1 c.put-schedule-row.ensures.fits,
+      c.loop-i-test.true (search rules) (omega arith) (omega arith) c.loop-i.invariant.0 c.put_schedule_row.ensures.holds,
+  each_more ScheduleFits c.args.rows.now c.loop-i.i _ c.loop-i-test.true (search rules) c.loop-i.invariant.1 c.put_schedule_row.ensures.fits,
 )
 
 pub returns : goal.returns

@@ -5,4 +5,4 @@ use Rattle.feed_writer.proofs.put.put_u32.Goals as goal
 
 pub returns : goal.returns
 unfolding bytes32
-returns c = put_written _ _ (bytes32 c.args.x) _ _ (c.copy-from-slice.ensures.after ∙ c.to-le-bytes.ensures) (omega arith)
+returns c = put_written _ _ (bytes32 c.args.x) _ _ (c.copy_from_slice.ensures.after ∙ c.to_le_bytes.ensures) (omega arith)

@@ -7,8 +7,8 @@ pub returns : goal.returns
 unfolding withdrawal_bytes bytes32
 returns c = record {
   holds =
-      follows _ _ _ _ _ _ _ (follows _ _ _ _ _ _ _ c.put-u32.ensures
-      c.put-u32-2.ensures (omega arith) (omega arith))
-      c.put-u32-3.ensures (omega arith) (omega arith);
+      follows _ _ _ _ _ _ _ (follows _ _ _ _ _ _ _ c.put_u32.ensures
+      c.put_u32-2.ensures (omega arith) (omega arith))
+      c.put_u32-3.ensures (omega arith) (omega arith);
   fits = search rules;
 }

@@ -10,8 +10,8 @@ loop-i-init c = (rows_none withdrawal_bytes 12 length_withdrawal_bytes c.args.at
 pub loop-i-preserved : goal.loop-i-preserved
 loop-i-preserved c = (
   rows_more withdrawal_bytes 12 length_withdrawal_bytes c.args.at c.args.rows.now c.args.out.now _ c.loop-i.i _ c.loop-i.out _
-      c.loop-i-test.true (search rules) (omega arith) (omega arith) c.loop-i.invariant.0 c.put-withdrawal-row.ensures.holds,
-  each_more WithdrawalFits c.args.rows.now c.loop-i.i _ c.loop-i-test.true (search rules) c.loop-i.invariant.1 c.put-withdrawal-row.ensures.fits,
+      c.loop-i-test.true (search rules) (omega arith) (omega arith) c.loop-i.invariant.0 c.put_withdrawal_row.ensures.holds,
+  each_more WithdrawalFits c.args.rows.now c.loop-i.i _ c.loop-i-test.true (search rules) c.loop-i.invariant.1 c.put_withdrawal_row.ensures.fits,
 )
 
 pub returns : goal.returns

@@ -13,14 +13,14 @@ returns c =
     let e = length_schedules c.args.rows.now in
     record {
       holds =
-          follows _ _ _ _ _ _ _ (follows _ _ _ _ _ _ _ (follows _ _ _ _ _ _ _ c.put-numbers.ensures.holds
-          c.put-numbers-2.ensures.holds (omega arith) (omega arith))
-          c.put-row-numbers.ensures.holds (simp length-append (omega arith)) (omega arith))
-          c.put-schedule-rows.ensures.holds (simp length-append (omega arith)) (omega arith);
+          follows _ _ _ _ _ _ _ (follows _ _ _ _ _ _ _ (follows _ _ _ _ _ _ _ c.put_numbers.ensures.holds
+          c.put_numbers-2.ensures.holds (omega arith) (omega arith))
+          c.put_row_numbers.ensures.holds (simp length-append (omega arith)) (omega arith))
+          c.put_schedule_rows.ensures.holds (simp length-append (omega arith)) (omega arith);
       fits = record {
-        prices = c.put-numbers.ensures.fits;
-        targets = c.put-numbers-2.ensures.fits;
-        numbers = c.put-row-numbers.ensures.fits;
-        rows = c.put-schedule-rows.ensures.fits;
+        prices = c.put_numbers.ensures.fits;
+        targets = c.put_numbers-2.ensures.fits;
+        numbers = c.put_row_numbers.ensures.fits;
+        rows = c.put_schedule_rows.ensures.fits;
       };
     }

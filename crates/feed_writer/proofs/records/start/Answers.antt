@@ -8,6 +8,6 @@ pub returns : goal.returns
 unfolding header bytes16
 returns c = record {
   reply = search rules;
-  holds = put_written 0 5 (header (code_of c.args.kind) c.args.n c.args.m) c.args.buffer.now c.copy-from-slice.new.self (c.copy-from-slice.ensures.after ∙ search rules) (omega arith);
+  holds = put_written 0 5 (header (code_of c.args.kind) c.args.n c.args.m) c.args.buffer.now c.copy_from_slice.new.self (c.copy_from_slice.ensures.after ∙ search rules) (omega arith);
   fits = search rules;
 }

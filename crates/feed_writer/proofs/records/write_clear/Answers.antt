@@ -8,11 +8,11 @@ use Rattle.feed_writer.proofs.records.write_clear.Goals as goal
 
 pub returns : goal.returns
 returns c =
-    let s = c.in-ok-length.ensures.fits in
+    let s = c.in_ok-length.ensures.fits in
     let a = s.whole in
     let b = s.fits in
     let h = length_header 4 (length c.args.prices.now) (length c.args.rows.now) in
     let p : length c.args.prices.now ≡ length c.args.targets.now = search rules in
     let d = length_sheet (sheet_values c.args.prices.now c.args.targets.now c.args.rows.now) p in
-    wrote (clearing (sheet_values c.args.prices.now c.args.targets.now c.args.rows.now)) _ c.args.buffer.now _ (eq-eqb _ _ p) s c.put-sheet.ensures.fits
-    (follows _ _ _ _ _ _ _ c.in-ok-length.ensures.holds c.put-sheet.ensures.holds (omega arith) (omega arith))
+    wrote (clearing (sheet_values c.args.prices.now c.args.targets.now c.args.rows.now)) _ c.args.buffer.now _ (eq-eqb _ _ p) s c.put_sheet.ensures.fits
+    (follows _ _ _ _ _ _ _ c.in_ok-length.ensures.holds c.put_sheet.ensures.holds (omega arith) (omega arith))

@@ -9,14 +9,14 @@ use Rattle.feed_writer.proofs.records.write_close.Goals as goal
 pub returns : goal.returns
 unfolding closing_bytes
 returns c =
-    let s = c.in-ok-length.ensures.fits in
+    let s = c.in_ok-length.ensures.fits in
     let a = s.whole in
     let b = s.fits in
     let h = length_header 6 0 (length c.args.rows.now) in
     let d = length_row_numbers (λ r. r.number) c.args.rows.now in
     let e = length_withdrawals c.args.rows.now in
     wrote (closing c.args.rows.now) _ c.args.buffer.now _ refl s
-    (record { numbers = c.put-row-numbers.ensures.fits; rows = c.put-withdrawal-rows.ensures.fits })
-    (follows _ _ _ _ _ _ _ c.in-ok-length.ensures.holds
-    (follows _ _ _ _ _ _ _ c.put-row-numbers.ensures.holds c.put-withdrawal-rows.ensures.holds (omega arith) (omega arith))
+    (record { numbers = c.put_row_numbers.ensures.fits; rows = c.put_withdrawal_rows.ensures.fits })
+    (follows _ _ _ _ _ _ _ c.in_ok-length.ensures.holds
+    (follows _ _ _ _ _ _ _ c.put_row_numbers.ensures.holds c.put_withdrawal_rows.ensures.holds (omega arith) (omega arith))
     (omega arith) (simp length-append (omega arith)))

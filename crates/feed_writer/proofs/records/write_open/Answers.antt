@@ -6,10 +6,10 @@ use Rattle.feed_writer.proofs.records.write_open.Goals as goal
 
 pub returns : goal.returns
 returns c =
-    let s = c.in-ok-length.ensures.fits in
+    let s = c.in_ok-length.ensures.fits in
     let a = s.whole in
     let b = s.fits in
     let h = length_header 3 0 0 in
     let d = length_bytes32 c.args.hour in
     wrote (opening c.args.hour) _ c.args.buffer.now _ refl s (search rules)
-    (follows _ _ _ _ _ _ _ c.in-ok-length.ensures.holds c.put-u32.ensures (omega arith) (omega arith))
+    (follows _ _ _ _ _ _ _ c.in_ok-length.ensures.holds c.put_u32.ensures (omega arith) (omega arith))

@@ -8,15 +8,15 @@ use Rattle.feed_writer.proofs.records.write_supplier.Goals as goal
 pub returns : goal.returns
 unfolding supplier_bytes bytes16 bytes32
 returns c =
-    let s = c.in-ok-length.ensures.fits in
+    let s = c.in_ok-length.ensures.fits in
     let a = s.whole in
     let b = s.fits in
     let h = length_header 1 0 0 in
     wrote (supplier c.args.new.now) _ c.args.buffer.now _ refl s (search rules)
-    (follows _ _ _ _ _ _ _ c.in-ok-length.ensures.holds
-    (follows _ _ _ _ _ _ _ (follows _ _ _ _ _ _ _ (follows _ _ _ _ _ _ _ (follows _ _ _ _ _ _ _ c.put-u32.ensures
-    c.put-u16.ensures (omega arith) (omega arith))
-    c.put-u16-2.ensures (omega arith) (omega arith))
-    c.put-u32-2.ensures (omega arith) (omega arith))
-    c.put-u32-3.ensures (omega arith) (omega arith))
+    (follows _ _ _ _ _ _ _ c.in_ok-length.ensures.holds
+    (follows _ _ _ _ _ _ _ (follows _ _ _ _ _ _ _ (follows _ _ _ _ _ _ _ (follows _ _ _ _ _ _ _ c.put_u32.ensures
+    c.put_u16.ensures (omega arith) (omega arith))
+    c.put_u16-2.ensures (omega arith) (omega arith))
+    c.put_u32-2.ensures (omega arith) (omega arith))
+    c.put_u32-3.ensures (omega arith) (omega arith))
     (omega arith) (omega arith))

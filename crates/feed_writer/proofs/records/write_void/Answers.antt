@@ -7,5 +7,5 @@ use Rattle.feed_writer.proofs.records.write_void.Goals as goal
 
 pub returns : goal.returns
 returns c =
-    wrote voiding _ c.args.buffer.now _ refl c.in-ok-length.ensures.fits tt
-    (c.in-ok-length.ensures.holds ∙ ap (λ bs. written 0 bs c.args.buffer.now) (sym (append-nil (header 7 0 0))))
+    wrote voiding _ c.args.buffer.now _ refl c.in_ok-length.ensures.fits tt
+    (c.in_ok-length.ensures.holds ∙ ap (λ bs. written 0 bs c.args.buffer.now) (sym (append-nil (header 7 0 0))))

@@ -16,6 +16,6 @@ loop-i-preserved g c =
     let account : c.index-accounts-i.result ≡ get_or c.args.accounts.now i c.index-accounts-i.result = c.index-accounts-i.is in
     let fits : SFits w64 old = search rules in
     let paid : SFits w64 c.cents.result = search rules in
-    let put = simp to_z-of_z at c.put-amount-start.ensures.put in
+    let put = simp to_z-of_z at c.put_amount-start.ensures.put in
     let line = texts_more g.A.Numbered.numbered g.A.Account.money c.args.letter c.args.hour c.args.before.now c.args.accounts.now i c.loop-i.i more c.index-accounts-i.result (omega arith) (omega arith) account _ c.number.ensures _ c.cents.ensures in
-    (put_same _ _ _ _ _ _ (sym line) (put_before _ _ _ _ _ _ _ _ c.loop-i.invariant.0 put), omega arith, omega arith, omega (arith, c.put-amount-start.ensures.short), omega (arith, c.put-amount-start.ensures.short))
+    (put_same _ _ _ _ _ _ (sym line) (put_before _ _ _ _ _ _ _ _ c.loop-i.invariant.0 put), omega arith, omega arith, omega (arith, c.put_amount-start.ensures.short), omega (arith, c.put_amount-start.ensures.short))

@@ -7,15 +7,15 @@ use Rattle.market.proofs.claims.check_curves.Goals as goal
 
 pub loop-k-preserved : goal.loop-k-preserved
 loop-k-preserved c =
-    sym (every_good (within_curve c.args.shadow-prices.now c.args.targets.now (curves_of c.args.curves.now) (λ j. get_or c.args.quantities.now j 0)) AboveDemandCurve c.loop-k.k c.args.requirements c.loop-k-test.true (search rules))
+    sym (every_good (within_curve c.args.shadow_prices.now c.args.targets.now (curves_of c.args.curves.now) (λ j. get_or c.args.quantities.now j 0)) AboveDemandCurve c.loop-k.k c.args.requirements c.loop-k-test.true (search rules))
     ∙ c.loop-k.invariant
 
-pub returns-then-not-is-within-curve : goal.returns-then-not-is-within-curve
-returns-then-not-is-within-curve c =
-    sym (every_bad (within_curve c.args.shadow-prices.now c.args.targets.now (curves_of c.args.curves.now) (λ j. get_or c.args.quantities.now j 0)) AboveDemandCurve c.loop-k.k c.args.requirements c.loop-k-test.true (search rules))
+pub returns-then-not-is_within_curve : goal.returns-then-not-is_within_curve
+returns-then-not-is_within_curve c =
+    sym (every_bad (within_curve c.args.shadow_prices.now c.args.targets.now (curves_of c.args.curves.now) (λ j. get_or c.args.quantities.now j 0)) AboveDemandCurve c.loop-k.k c.args.requirements c.loop-k-test.true (search rules))
     ∙ c.loop-k.invariant
 
 pub returns : goal.returns
 returns c =
-    sym (every_end (within_curve c.args.shadow-prices.now c.args.targets.now (curves_of c.args.curves.now) (λ j. get_or c.args.quantities.now j 0)) AboveDemandCurve c.loop-k.k c.args.requirements (omega arith))
+    sym (every_end (within_curve c.args.shadow_prices.now c.args.targets.now (curves_of c.args.curves.now) (λ j. get_or c.args.quantities.now j 0)) AboveDemandCurve c.loop-k.k c.args.requirements (omega arith))
     ∙ c.loop-k.invariant

@@ -7,5 +7,5 @@ use Rattle.market.proofs.claims.check_curves.Given as goal
 
 abbrev pub invariant-loop-k : goal.invariant-loop-k
 invariant-loop-k l =
-    every (within_curve l.shadow-prices l.targets (curves_of l.curves) (λ j. get_or l.quantities j 0)) AboveDemandCurve l.k (l.requirements - l.k)
-    ≡ every (within_curve l.shadow-prices l.targets (curves_of l.curves) (λ j. get_or l.quantities j 0)) AboveDemandCurve 0 l.requirements
+    every (within_curve l.shadow_prices l.targets (curves_of l.curves) (λ j. get_or l.quantities j 0)) AboveDemandCurve l.k (l.requirements - l.k)
+    ≡ every (within_curve l.shadow_prices l.targets (curves_of l.curves) (λ j. get_or l.quantities j 0)) AboveDemandCurve 0 l.requirements

@@ -6,5 +6,5 @@ use Rattle.market.proofs.claims.check_ranges.Given as goal
 
 abbrev pub invariant-loop-k : goal.invariant-loop-k
 invariant-loop-k l =
-    every (claim_in_range l.shadow-prices l.targets) PriceOrTargetOutOfRange l.k (l.requirements - l.k)
-    ≡ every (claim_in_range l.shadow-prices l.targets) PriceOrTargetOutOfRange 0 l.requirements
+    every (claim_in_range l.shadow_prices l.targets) PriceOrTargetOutOfRange l.k (l.requirements - l.k)
+    ≡ every (claim_in_range l.shadow_prices l.targets) PriceOrTargetOutOfRange 0 l.requirements

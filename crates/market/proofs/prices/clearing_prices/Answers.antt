@@ -11,11 +11,11 @@ returns g c =
     let m = g.M.LocationMap.market c.args.map.now in
     let law = g.met.M.LocationMap.lawful c.args.map.now in
     let better = better_never_cheaper m law in
-    let value : (l : ℕ) → get_or c.loop-l.table l no_prices ≡ prices_at_lem m c.args.shadow-prices.now l = λ l. elim (cases_lt l c.loop-l.l) [
+    let value : (l : ℕ) → get_or c.loop-l.table l no_prices ≡ prices_at_lem m c.args.shadow_prices.now l = λ l. elim (cases_lt l c.loop-l.l) [
       | inl h ↦ c.loop-l.invariant.1 l h
-      | inr h ↦ c.loop-l.invariant.2 l h ∙ prices_beyond m law c.args.shadow-prices.now l (omega arith)
+      | inr h ↦ c.loop-l.invariant.2 l h ∙ prices_beyond m law c.args.shadow_prices.now l (omega arith)
     ] in
     record {
       value = value;
-      law = λ l. (omega (arith, ap (λ (x : ProductPrices). x.thirty) (value l), ap (λ (x : ProductPrices). x.ten) (value l), better.ten_thirty c.args.shadow-prices.now l), omega (arith, ap (λ (x : ProductPrices). x.spinning) (value l), ap (λ (x : ProductPrices). x.ten) (value l), better.spinning_ten c.args.shadow-prices.now l));
+      law = λ l. (omega (arith, ap (λ (x : ProductPrices). x.thirty) (value l), ap (λ (x : ProductPrices). x.ten) (value l), better.ten_thirty c.args.shadow_prices.now l), omega (arith, ap (λ (x : ProductPrices). x.spinning) (value l), ap (λ (x : ProductPrices). x.ten) (value l), better.spinning_ten c.args.shadow_prices.now l));
     }

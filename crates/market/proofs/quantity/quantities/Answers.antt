@@ -10,19 +10,19 @@ use Rattle.market.proofs.quantity.quantities.Goals as goal
 pub loop-k-init : goal.loop-k-init
 loop-k-init g c = (refl, (λ k h. absurd (omega arith)), (λ k h. same_all 32 k 0))
 
-pub quantity-toward-requires : goal.quantity-toward-requires
-quantity-toward-requires g c =
+pub quantity_toward-requires : goal.quantity_toward-requires
+quantity_toward-requires g c =
     let ls = map g.P.Placed.place c.args.places.now in
     let n : length ls ≤ 2 ^ 64 = rw length-map (omega arith) in
-    record { long = c.totals-of-totals.ensures.long; low = at_most_of ls _ c.totals-of-totals.result n c.totals-of-totals.ensures }
+    record { long = c.totals_of-totals.ensures.long; low = at_most_of ls _ c.totals_of-totals.result n c.totals_of-totals.ensures }
 
 pub loop-k-preserved : goal.loop-k-preserved
 loop-k-preserved g c =
     let few = (g.met.M.LocationMap.lawful c.args.map.now).few_requirements in
     let h : c.loop-k.k < length c.loop-k.table = omega arith in (
       length-set _ _ _ ∙ c.loop-k.invariant.0,
-      table_more _ 0 c.loop-k.table c.loop-k.k c.quantity-toward.result h c.quantity-toward.ensures c.loop-k.invariant.1,
-      λ k l. get_or-set_other c.loop-k.table c.loop-k.k k c.quantity-toward.result 0 (λ q. omega arith) ∙ c.loop-k.invariant.2 k (omega arith),
+      table_more _ 0 c.loop-k.table c.loop-k.k c.quantity_toward.result h c.quantity_toward.ensures c.loop-k.invariant.1,
+      λ k l. get_or-set_other c.loop-k.table c.loop-k.k k c.quantity_toward.result 0 (λ q. omega arith) ∙ c.loop-k.invariant.2 k (omega arith),
     )
 
 pub returns : goal.returns
@@ -32,11 +32,11 @@ returns g c =
     let ls = map g.P.Placed.place c.args.places.now in
     let rs = map g.R.Scheduled.scheduled c.args.rows.now in
     let value : (k : ℕ) → get_or c.loop-k.table k 0 ≡ quantity m ls rs k = λ k. elim (cases_lt k c.loop-k.k) [
-      | inl h ↦ c.loop-k.invariant.1 k h ∙ c.totals-of-totals.ensures.same m law k
+      | inl h ↦ c.loop-k.invariant.1 k h ∙ c.totals_of-totals.ensures.same m law k
       | inr h ↦ c.loop-k.invariant.2 k h ∙ quantity_beyond m law ls rs k (omega arith)
     ] in
     let n : length ls ≡ length c.args.places.now = length-map _ _ in
     record {
       value = value;
-      bound = λ k. omega (arith, value k, quantity_at_most ls rs c.totals-of-totals.result c.totals-of-totals.ensures m law k);
+      bound = λ k. omega (arith, value k, quantity_at_most ls rs c.totals_of-totals.result c.totals_of-totals.ensures m law k);
     }

@@ -9,12 +9,12 @@ use Rattle.sharing.specs.Rule.{Rule}
 use Rattle.planning.proofs.Charging.{few_rows, all_shared, closing_told}
 use Rattle.planning.proofs.closing.plan_closing.Goals as goal
 
-pub slice-bounds-check-charge-end : goal.slice-bounds-check-charge-end
-slice-bounds-check-charge-end g c =
+pub slice_bounds-check_charge-end : goal.slice_bounds-check_charge-end
+slice_bounds-check_charge-end g c =
     let e = ap length c.accounts-charged.ensures.all in
     let few : length c.accounts-charged.result.now ≤ 256 = omega (arith, c.accounts-charged.ensures.few) in
-    let l = few_rows c.accounts-charged.result.now c.args.settled c.args.rows.now few c.in-ok-check-withdrawals.ensures in
-    omega (arith, c.share-out-shares.ensures.room)
+    let l = few_rows c.accounts-charged.result.now c.args.settled c.args.rows.now few c.in_ok-check_withdrawals.ensures in
+    omega (arith, c.share_out-shares.ensures.room)
 
 -- the verdict on the accounts is that on their books
 moved : (r : Rule) (xs xs' : List Supplier) (ys ys' : List Customer) (settled : ℕ) (grains : ℤ) (rows : List WithdrawalRow) → xs ≡ xs' → ys ≡ ys'
@@ -22,14 +22,14 @@ moved : (r : Rule) (xs xs' : List Supplier) (ys ys' : List Customer) (settled : 
 moved r xs xs' ys ys' settled grains rows e f =
     ap (λ (zs : List Supplier). closing_verdict r zs ys settled grains rows) e ∙ ap (λ (zs : List Customer). closing_verdict r xs' zs settled grains rows) f
 
-pub returns-in-err-check-charge : goal.returns-in-err-check-charge
-returns-in-err-check-charge g c =
-    let p = err_from_is_err_and c.from-residual-in-err-check-charge.result c.from-residual-in-err-check-charge.ensures.1 in
+pub returns-in_err-check_charge : goal.returns-in_err-check_charge
+returns-in_err-check_charge g c =
+    let p = err_from_is_err_and c.from_residual-in_err-check_charge.result c.from_residual-in_err-check_charge.ensures.1 in
     let all = ap length c.accounts-charged.ensures.all in
     let few : length c.accounts-charged.result.now ≤ 256 = omega (arith, c.accounts-charged.ensures.few) in
     let f : SFits w64 c.args.grains = search rules in
     let n : length c.args.rows.now - 0 ≡ length c.args.rows.now = omega arith in
-    let e = closing_told c.accounts-charged.result.now c.args.settled c.args.rows.now few c.in-ok-check-withdrawals.ensures g.S.SharingRule.share c.args.grains _ (to_z-of_z w64 c.args.grains f) c.share-out-shares.result c.share-out-shares.ensures c.accounts-paid.result.now _ (length c.args.rows.now - 0) n c.in-ok-check-settle.ensures c.in-err-check-charge.ensures in
+    let e = closing_told c.accounts-charged.result.now c.args.settled c.args.rows.now few c.in_ok-check_withdrawals.ensures g.S.SharingRule.share c.args.grains _ (to_z-of_z w64 c.args.grains f) c.share_out-shares.result c.share_out-shares.ensures c.accounts-paid.result.now _ (length c.args.rows.now - 0) n c.in_ok-check_settle.ensures c.in_err-check_charge.ensures in
     rw (p.1, p.2) (record { reply = e ∙ moved g.S.SharingRule.share _ _ _ _ c.args.settled c.args.grains c.args.rows.now c.accounts-paid.ensures.all c.accounts-charged.ensures.all; holds = tt })
 
 pub returns : goal.returns
@@ -38,8 +38,8 @@ returns g c =
     let few : length c.accounts-charged.result.now ≤ 256 = omega (arith, c.accounts-charged.ensures.few) in
     let f : SFits w64 c.args.grains = search rules in
     let n : length c.args.rows.now - 0 ≡ length c.args.rows.now = omega arith in
-    let e = closing_told c.accounts-charged.result.now c.args.settled c.args.rows.now few c.in-ok-check-withdrawals.ensures g.S.SharingRule.share c.args.grains _ (to_z-of_z w64 c.args.grains f) c.share-out-shares.result c.share-out-shares.ensures c.accounts-paid.result.now _ (length c.args.rows.now - 0) n c.in-ok-check-settle.ensures c.in-ok-check-charge.ensures in
+    let e = closing_told c.accounts-charged.result.now c.args.settled c.args.rows.now few c.in_ok-check_withdrawals.ensures g.S.SharingRule.share c.args.grains _ (to_z-of_z w64 c.args.grains f) c.share_out-shares.result c.share_out-shares.ensures c.accounts-paid.result.now _ (length c.args.rows.now - 0) n c.in_ok-check_settle.ensures c.in_ok-check_charge.ensures in
     record {
       reply = e ∙ moved g.S.SharingRule.share _ _ _ _ c.args.settled c.args.grains c.args.rows.now c.accounts-paid.ensures.all c.accounts-charged.ensures.all;
-      holds = all_shared c.accounts-charged.result.now c.args.settled c.args.rows.now few c.in-ok-check-withdrawals.ensures g.S.SharingRule.share c.args.grains _ (to_z-of_z w64 c.args.grains f) c.share-out-shares.result c.share-out-shares.ensures;
+      holds = all_shared c.accounts-charged.result.now c.args.settled c.args.rows.now few c.in_ok-check_withdrawals.ensures g.S.SharingRule.share c.args.grains _ (to_z-of_z w64 c.args.grains f) c.share_out-shares.result c.share_out-shares.ensures;
     }

@@ -23,8 +23,8 @@ module _ (x y d : ℕ) (hx : x ≤ most_cost) (hy : y ≤ most_cost) (hd : d ≤
       let l : most_cost * d ≤ 132710400000000000 = omega arith in
       omega (arith, ints)
 
-pub overflow-mul-result : goal.overflow-mul-result
-overflow-mul-result c =
+pub overflow_mul-result : goal.overflow_mul-result
+overflow_mul-result c =
     let x = c.args.real in
     let y = c.args.paid in
     let d = c.args.seconds in

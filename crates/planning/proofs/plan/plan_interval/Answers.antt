@@ -5,25 +5,25 @@ use Rattle.curves.specs.Book.{curves_of}
 use Rattle.planning.proofs.Planning.{interval_told, interval_small, interval_planned}
 use Rattle.planning.proofs.plan.plan_interval.Goals as goal
 
-pub returns-in-err-check-post : goal.returns-in-err-check-post
-returns-in-err-check-post g c =
+pub returns-in_err-check_post : goal.returns-in_err-check_post
+returns-in_err-check_post g c =
     let m = g.M.LocationMap.market c.args.map.now in
-    let p = err_from_is_err_and c.from-residual-in-err-check-post.result c.from-residual-in-err-check-post.ensures.1 in
-    rw (p.1, p.2) (record { reply = interval_told m c.accounts-accounts.result.now c.args.shadow-prices.now c.args.targets.now (curves_of c.args.curves.now) c.args.rows.now _ c.accounts-accounts.ensures.all c.clearing-prices.result c.clearing-prices.ensures.value c.in-ok-real.ensures.reply c.args.settled c.args.seconds _ c.in-ok-check-seconds.ensures c.in-err-check-post.ensures; holds = tt })
+    let p = err_from_is_err_and c.from_residual-in_err-check_post.result c.from_residual-in_err-check_post.ensures.1 in
+    rw (p.1, p.2) (record { reply = interval_told m c.accounts-accounts.result.now c.args.shadow_prices.now c.args.targets.now (curves_of c.args.curves.now) c.args.rows.now _ c.accounts-accounts.ensures.all c.clearing_prices.result c.clearing_prices.ensures.value c.in_ok-real.ensures.reply c.args.settled c.args.seconds _ c.in_ok-check_seconds.ensures c.in_err-check_post.ensures; holds = tt })
 
-pub cost-over-cost-requires : goal.cost-over-cost-requires
-cost-over-cost-requires g c =
+pub cost_over-cost-requires : goal.cost_over-cost-requires
+cost_over-cost-requires g c =
     let m = g.M.LocationMap.market c.args.map.now in
     let all = ap length c.accounts-accounts.ensures.all in
     let few : length c.accounts-accounts.result.now ≤ 128 = omega (arith, c.accounts-accounts.ensures.few) in
-    let small = interval_small m c.accounts-accounts.result.now c.args.shadow-prices.now c.args.targets.now (curves_of c.args.curves.now) c.args.rows.now _ c.accounts-accounts.ensures.all c.clearing-prices.result c.clearing-prices.ensures.value c.in-ok-real.ensures.reply c.args.settled c.args.seconds c.in-ok-real.real c.in-ok-real.ensures.holds c.cost-of.result c.cost-of.ensures c.quantities-ahead.result c.quantities-ahead.ensures.value c.cost-of-2.result c.cost-of-2.ensures (g.met.M.LocationMap.lawful c.args.map.now) few c.in-ok-check-seconds.ensures c.in-ok-check-post.ensures in
+    let small = interval_small m c.accounts-accounts.result.now c.args.shadow_prices.now c.args.targets.now (curves_of c.args.curves.now) c.args.rows.now _ c.accounts-accounts.ensures.all c.clearing_prices.result c.clearing_prices.ensures.value c.in_ok-real.ensures.reply c.args.settled c.args.seconds c.in_ok-real.real c.in_ok-real.ensures.holds c.cost_of.result c.cost_of.ensures c.quantities-ahead.result c.quantities-ahead.ensures.value c.cost_of-2.result c.cost_of-2.ensures (g.met.M.LocationMap.lawful c.args.map.now) few c.in_ok-check_seconds.ensures c.in_ok-check_post.ensures in
     record { real = small.0; paid = small.1; time = omega (arith, small.2) }
 
 pub returns : goal.returns
 returns g c =
     let m = g.M.LocationMap.market c.args.map.now in
-    let f : SFits w64 c.cost-over-cost.result = search rules in
+    let f : SFits w64 c.cost_over-cost.result = search rules in
     record {
-      reply = interval_told m c.accounts-accounts.result.now c.args.shadow-prices.now c.args.targets.now (curves_of c.args.curves.now) c.args.rows.now _ c.accounts-accounts.ensures.all c.clearing-prices.result c.clearing-prices.ensures.value c.in-ok-real.ensures.reply c.args.settled c.args.seconds _ c.in-ok-check-seconds.ensures c.in-ok-check-post.ensures;
-      holds = interval_planned m c.accounts-accounts.result.now c.args.shadow-prices.now c.args.targets.now (curves_of c.args.curves.now) c.args.rows.now _ c.accounts-accounts.ensures.all c.clearing-prices.result c.clearing-prices.ensures.value c.in-ok-real.ensures.reply c.args.settled c.args.seconds c.in-ok-real.real c.in-ok-real.ensures.holds c.cost-of.result c.cost-of.ensures c.quantities-ahead.result c.quantities-ahead.ensures.value c.cost-of-2.result c.cost-of-2.ensures _ (to_z-of_z w64 c.cost-over-cost.result f ∙ c.cost-over-cost.ensures.value) (simp to_z-of_z c.cost-over-cost.ensures.bound);
+      reply = interval_told m c.accounts-accounts.result.now c.args.shadow_prices.now c.args.targets.now (curves_of c.args.curves.now) c.args.rows.now _ c.accounts-accounts.ensures.all c.clearing_prices.result c.clearing_prices.ensures.value c.in_ok-real.ensures.reply c.args.settled c.args.seconds _ c.in_ok-check_seconds.ensures c.in_ok-check_post.ensures;
+      holds = interval_planned m c.accounts-accounts.result.now c.args.shadow_prices.now c.args.targets.now (curves_of c.args.curves.now) c.args.rows.now _ c.accounts-accounts.ensures.all c.clearing_prices.result c.clearing_prices.ensures.value c.in_ok-real.ensures.reply c.args.settled c.args.seconds c.in_ok-real.real c.in_ok-real.ensures.holds c.cost_of.result c.cost_of.ensures c.quantities-ahead.result c.quantities-ahead.ensures.value c.cost_of-2.result c.cost_of-2.ensures _ (to_z-of_z w64 c.cost_over-cost.result f ∙ c.cost_over-cost.ensures.value) (simp to_z-of_z c.cost_over-cost.ensures.bound);
     }

@@ -4,20 +4,20 @@ use Rattle.curves.specs.Book.{curves_of}
 use Rattle.planning.proofs.Planning.{scheduled, counted}
 use Rattle.planning.proofs.schedule.check_schedule.Goals as goal
 
-pub returns-in-err-check-prices : goal.returns-in-err-check-prices
-returns-in-err-check-prices g c =
-    let p = err_from_is_err_and c.from-residual-in-err-check-prices.result c.from-residual-in-err-check-prices.ensures.1 in
-    rw (p.1, p.2) (record { reply = scheduled (g.M.LocationMap.market c.args.map.now) c.args.accounts.now c.args.shadow-prices.now c.args.targets.now (curves_of c.args.curves.now) c.args.rows.now c.quantities-scheduled.result c.quantities-scheduled.ensures.value _ c.in-ok-check-sheet.ensures c.in-ok-check-capability.ensures c.in-err-check-prices.ensures.reply; holds = tt })
+pub returns-in_err-check_prices : goal.returns-in_err-check_prices
+returns-in_err-check_prices g c =
+    let p = err_from_is_err_and c.from_residual-in_err-check_prices.result c.from_residual-in_err-check_prices.ensures.1 in
+    rw (p.1, p.2) (record { reply = scheduled (g.M.LocationMap.market c.args.map.now) c.args.accounts.now c.args.shadow_prices.now c.args.targets.now (curves_of c.args.curves.now) c.args.rows.now c.quantities-scheduled.result c.quantities-scheduled.ensures.value _ c.in_ok-check_sheet.ensures c.in_ok-check_capability.ensures c.in_err-check_prices.ensures.reply; holds = tt })
 
 pub returns : goal.returns
 returns g c =
     let m = g.M.LocationMap.market c.args.map.now in
-    let v = c.in-ok-check-prices.ensures.reply in
+    let v = c.in_ok-check_prices.ensures.reply in
     let long : length c.quantities-scheduled.result ≡ 32 = search rules in
     record {
-      reply = scheduled m c.args.accounts.now c.args.shadow-prices.now c.args.targets.now (curves_of c.args.curves.now) c.args.rows.now c.quantities-scheduled.result c.quantities-scheduled.ensures.value _ c.in-ok-check-sheet.ensures c.in-ok-check-capability.ensures v;
+      reply = scheduled m c.args.accounts.now c.args.shadow_prices.now c.args.targets.now (curves_of c.args.curves.now) c.args.rows.now c.quantities-scheduled.result c.quantities-scheduled.ensures.value _ c.in_ok-check_sheet.ensures c.in_ok-check_capability.ensures v;
       holds = record {
-        priced = counted m c.args.accounts.now c.args.shadow-prices.now c.args.targets.now (curves_of c.args.curves.now) c.args.rows.now _ v;
+        priced = counted m c.args.accounts.now c.args.shadow_prices.now c.args.targets.now (curves_of c.args.curves.now) c.args.rows.now _ v;
         long = long;
         value = c.quantities-scheduled.ensures.value;
         low = c.quantities-scheduled.ensures.bound;

@@ -27,27 +27,27 @@ paid a cents held = record {
 same_paid : (a : Supplier) (z z' : ℤ) (n n' : ℕ) → z ≡ z' → n ≡ n' → paid a z n ≡ paid a z' n'
 same_paid a z z' n n' e f = ap (λ (x : ℤ). paid a x n) e ∙ ap (paid a z') f
 
-pub returns-in-err-cents : goal.returns-in-err-cents
-returns-in-err-cents c =
+pub returns-in_err-cents : goal.returns-in_err-cents
+returns-in_err-cents c =
     let a : Supplier = c.args.self.now in
     let fc : SFits w64 a.cents = search rules in
     let fu : SFits w128 c.unpaid-unpaid.result = search rules in
-    let fw : SFits w128 c.whole-cents.result = search rules in
-    let e : c.whole-cents.result ≡ whole (pos a.held +ℤ a.hour) = simp to_z-of_z at c.whole-cents.ensures ∙ ap whole c.unpaid-unpaid.ensures in
-    c.from-residual.ensures
-    ∙ cents_withheld a (settle a) (a.cents +ℤ c.whole-cents.result) (ap (λ (z : ℤ). a.cents +ℤ z) e) (simp to_z-of_z at c.in-err-cents.ensures)
+    let fw : SFits w128 c.whole_cents.result = search rules in
+    let e : c.whole_cents.result ≡ whole (pos a.held +ℤ a.hour) = simp to_z-of_z at c.whole_cents.ensures ∙ ap whole c.unpaid-unpaid.ensures in
+    c.from_residual.ensures
+    ∙ cents_withheld a (settle a) (a.cents +ℤ c.whole_cents.result) (ap (λ (z : ℤ). a.cents +ℤ z) e) (simp to_z-of_z at c.in_err-cents.ensures)
 
 pub returns : goal.returns
 returns c =
     let a : Supplier = c.args.self.now in
     let fc : SFits w64 a.cents = search rules in
     let fu : SFits w128 c.unpaid-unpaid.result = search rules in
-    let fw : SFits w128 c.whole-cents.result = search rules in
-    let fn : SFits w64 c.in-ok-cents.cents = search rules in
-    let e : c.whole-cents.result ≡ whole (pos a.held +ℤ a.hour) = simp to_z-of_z at c.whole-cents.ensures ∙ ap whole c.unpaid-unpaid.ensures in
-    let z : to_z w64 (of_z w64 c.in-ok-cents.cents) ≡ a.cents +ℤ whole (pos a.held +ℤ a.hour) =
-    to_z-of_z w64 c.in-ok-cents.cents fn
-    ∙ (given (amount_fits_lem (a.cents +ℤ c.whole-cents.result)) (a.cents +ℤ c.whole-cents.result) c.in-ok-cents.cents (simp to_z-of_z at c.in-ok-cents.ensures)).1
+    let fw : SFits w128 c.whole_cents.result = search rules in
+    let fn : SFits w64 c.in_ok-cents.cents = search rules in
+    let e : c.whole_cents.result ≡ whole (pos a.held +ℤ a.hour) = simp to_z-of_z at c.whole_cents.ensures ∙ ap whole c.unpaid-unpaid.ensures in
+    let z : to_z w64 (of_z w64 c.in_ok-cents.cents) ≡ a.cents +ℤ whole (pos a.held +ℤ a.hour) =
+    to_z-of_z w64 c.in_ok-cents.cents fn
+    ∙ (given (amount_fits_lem (a.cents +ℤ c.whole_cents.result)) (a.cents +ℤ c.whole_cents.result) c.in_ok-cents.cents (simp to_z-of_z at c.in_ok-cents.ensures)).1
     ∙ ap (λ (x : ℤ). a.cents +ℤ x) e in
-    let n : c.rest-grains-held.result ≡ rest (pos a.held +ℤ a.hour) = simp to_z-of_z at c.rest-grains-held.ensures ∙ ap rest c.unpaid-unpaid.ensures in
-    moved a c.forgotten.result (settle a) c.moved-to.result c.moved-to.ensures (c.forgotten.ensures ∙ same_paid a _ _ _ _ z n)
+    let n : c.rest_grains-held.result ≡ rest (pos a.held +ℤ a.hour) = simp to_z-of_z at c.rest_grains-held.ensures ∙ ap rest c.unpaid-unpaid.ensures in
+    moved a c.forgotten.result (settle a) c.moved_to.result c.moved_to.ensures (c.forgotten.ensures ∙ same_paid a _ _ _ _ z n)

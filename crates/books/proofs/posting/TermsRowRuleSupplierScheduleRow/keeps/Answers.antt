@@ -8,4 +8,4 @@ returns c =
     let t = c.args.self.now in
     let a = c.args.account.now in
     let w = c.args.row.now in
-    tells_test (stays (post_by t) a w) c.is-some.result (post_by t a w.reserves) c.posted.result c.is-some.ensures c.posted.ensures
+    tells_test (stays (post_by t) a w) c.is_some.result (post_by t a w.reserves) c.posted.result c.is_some.ensures c.posted.ensures

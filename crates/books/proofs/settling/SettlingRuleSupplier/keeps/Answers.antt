@@ -5,4 +5,4 @@ use Rattle.books.proofs.settling.SettlingRuleSupplier.keeps.Goals as goal
 pub returns : goal.returns
 returns c =
     let a = c.args.item.now in
-    tells_test (settles a) c.is-some.result (settle a) c.settled.result c.is-some.ensures c.settled.ensures
+    tells_test (settles a) c.is_some.result (settle a) c.settled.result c.is_some.ensures c.settled.ensures

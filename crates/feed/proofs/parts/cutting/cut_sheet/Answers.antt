@@ -4,6 +4,6 @@ use Rattle.feed.proofs.parts.cutting.cut_sheet.Goals as goal
 pub returns : goal.returns
 returns c =
     sheet_cut c.args.bytes.now _ _ _ _ _ _ c.args.n c.args.m c.requires
-    c.split-at.ensures.front c.split-at.ensures.back
-    c.split-at-2.ensures.front c.split-at-2.ensures.back
-    c.split-at-3.ensures.front c.split-at-3.ensures.back
+    c.split_at.ensures.front c.split_at.ensures.back
+    c.split_at-2.ensures.front c.split_at-2.ensures.back
+    c.split_at-3.ensures.front c.split_at-3.ensures.back

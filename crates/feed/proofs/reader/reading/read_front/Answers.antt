@@ -7,7 +7,7 @@ use Rattle.feed.proofs.reader.reading.read_front.Goals as goal
 pub returns : goal.returns
 returns c = record {
   told =
-      c.read-sized.ensures.told
+      c.read_sized.ensures.told
       ∙ ap (long_answer c.args.offset) (front_headed c.args.bytes.now _ _ _ _ (search rules) c.in-Some.ensures (search rules) (search rules) (take_rest c.args.bytes.now 5));
   within = search (rules, take_rest, length-drop);
 }

@@ -29,14 +29,14 @@ returns-in-Err g c m =
     let e = c.in-Err.ensures.reply ∙ at g.S.SharingRule.share (suppliers c.args.suppliers.now) (customers c.args.customers.now) c.args.self.seconds c.args.rows.now _ _ h in
     close_refused m g.S.SharingRule.share c.args.self.last c.args.self.hour c.args.self.carry c.args.self.seconds c.args.self.cost (suppliers c.args.suppliers.now) (customers c.args.customers.now) (room c.args.suppliers.now) (room c.args.customers.now) c.args.rows.now c.in-Err.fault e
 
-pub slice-bounds-charge-end : goal.slice-bounds-charge-end
-slice-bounds-charge-end g c =
+pub slice_bounds-charge-end : goal.slice_bounds-charge-end
+slice_bounds-charge-end g c =
     let n : length (customers c.args.customers.now) ≤ most_customers = few most_customers (min c.args.customers.now.count (room c.args.customers.now)) c.args.customers.now.rows.now in
     let l = rows_few g.S.SharingRule.share (suppliers c.args.suppliers.now) (customers c.args.customers.now) c.args.self.seconds _ c.args.rows.now n c.in-Ok.ensures.reply in
     omega (arith, c.in-Ok.ensures.holds.room)
 
-pub invariant-of-result : goal.invariant-of-result
-invariant-of-result g c =
+pub invariant_of-result : goal.invariant_of-result
+invariant_of-result g c =
     let fx : SFits w64 c.args.self.cost = search rules in
     let fy : SFits w64 c.args.self.carry = search rules in
     let h = grains_are c.args.self.cost c.args.self.carry c.args.self.seconds fx fy c.args.self.bounded c.args.self.timed c.args.self.small in

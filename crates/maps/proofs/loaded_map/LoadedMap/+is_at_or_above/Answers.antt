@@ -9,4 +9,4 @@ pub returns-then-location-eq-ROOT : goal.returns-then-location-eq-ROOT
 returns-then-location-eq-ROOT t c = λ n l. root _ _ _ (c.args.self.now.falls 0 (omega arith)).0 (search rules) (omega arith) n
 
 pub returns-else-location-eq-ROOT : goal.returns-else-location-eq-ROOT
-returns-else-location-eq-ROOT t c = up _ _ _ _ (omega arith) ((c.args.self.now.falls c.args.location (search rules)).1 (omega arith)) c.is-at-or-above.ensures
+returns-else-location-eq-ROOT t c = up _ _ _ _ (omega arith) ((c.args.self.now.falls c.args.location (search rules)).1 (omega arith)) c.is_at_or_above.ensures

@@ -9,8 +9,8 @@ loop-location-preserved c =
     sym (every_good (is_placed_lem c.args.parents.now c.args.masks.now) MapArrays c.loop-location.location (length c.args.parents.now) c.loop-location-test.true (search rules))
     ∙ c.loop-location.invariant
 
-pub returns-then-not-is-placed : goal.returns-then-not-is-placed
-returns-then-not-is-placed c =
+pub returns-then-not-is_placed : goal.returns-then-not-is_placed
+returns-then-not-is_placed c =
     sym (every_bad (is_placed_lem c.args.parents.now c.args.masks.now) MapArrays c.loop-location.location (length c.args.parents.now) c.loop-location-test.true (search rules))
     ∙ c.loop-location.invariant
 

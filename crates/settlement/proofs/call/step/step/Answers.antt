@@ -11,12 +11,12 @@ use Rattle.settlement.proofs.call.step.step.Goals as goal
 
 pub returns-in-EnrolSupplier : goal.returns-in-EnrolSupplier
 returns-in-EnrolSupplier g c =
-    let one = called (g.M.LocationMap.market c.args.map.now) g.S.SharingRule.share (state c.args.ledger (suppliers c.args.suppliers.now) (customers c.args.customers.now) (room c.args.suppliers.now) (room c.args.customers.now)) (curves_of c.args.curves.now) (EnrolSupplier c.in-EnrolSupplier.new) c.args.call c.in-EnrolSupplier.is _ _ (c.enrol-supplier.ensures g.S.SharingRule.share (customers c.args.customers.now) (room c.args.customers.now)) in
+    let one = called (g.M.LocationMap.market c.args.map.now) g.S.SharingRule.share (state c.args.ledger (suppliers c.args.suppliers.now) (customers c.args.customers.now) (room c.args.suppliers.now) (room c.args.customers.now)) (curves_of c.args.curves.now) (EnrolSupplier c.in-EnrolSupplier.new) c.args.call c.in-EnrolSupplier.is _ _ (c.enrol_supplier.ensures g.S.SharingRule.share (customers c.args.customers.now) (room c.args.customers.now)) in
     record { step = one; law = kept_after (g.M.LocationMap.market c.args.map.now) (g.met.M.LocationMap.lawful c.args.map.now) g.S.SharingRule.share g.met.S.SharingRule.fair _ _ _ _ one }
 
 pub returns-in-EnrolCustomer : goal.returns-in-EnrolCustomer
 returns-in-EnrolCustomer g c =
-    let one = called (g.M.LocationMap.market c.args.map.now) g.S.SharingRule.share (state c.args.ledger (suppliers c.args.suppliers.now) (customers c.args.customers.now) (room c.args.suppliers.now) (room c.args.customers.now)) (curves_of c.args.curves.now) (EnrolCustomer c.in-EnrolCustomer.number) c.args.call c.in-EnrolCustomer.is _ _ (c.enrol-customer.ensures (g.M.LocationMap.market c.args.map.now) g.S.SharingRule.share (suppliers c.args.suppliers.now) (room c.args.suppliers.now)) in
+    let one = called (g.M.LocationMap.market c.args.map.now) g.S.SharingRule.share (state c.args.ledger (suppliers c.args.suppliers.now) (customers c.args.customers.now) (room c.args.suppliers.now) (room c.args.customers.now)) (curves_of c.args.curves.now) (EnrolCustomer c.in-EnrolCustomer.number) c.args.call c.in-EnrolCustomer.is _ _ (c.enrol_customer.ensures (g.M.LocationMap.market c.args.map.now) g.S.SharingRule.share (suppliers c.args.suppliers.now) (room c.args.suppliers.now)) in
     record { step = one; law = kept_after (g.M.LocationMap.market c.args.map.now) (g.met.M.LocationMap.lawful c.args.map.now) g.S.SharingRule.share g.met.S.SharingRule.fair _ _ _ _ one }
 
 pub returns-in-Open : goal.returns-in-Open

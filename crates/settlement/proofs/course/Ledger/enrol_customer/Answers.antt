@@ -8,7 +8,7 @@ use Rattle.settlement.proofs.course.Ledger.enrol_customer.Goals as goal
 
 pub returns-in-Rest : goal.returns-in-Rest
 returns-in-Rest c m rule xs p =
-    found m rule (Rest c.in-Rest.l) c.args.self c.in-Rest.is xs (customers c.args.customers.now) p (room c.args.customers.now) (enrol_customer c.args.number) _ _ (c.enrol-customer-done.ensures m rule xs p)
+    found m rule (Rest c.in-Rest.l) c.args.self c.in-Rest.is xs (customers c.args.customers.now) p (room c.args.customers.now) (enrol_customer c.args.number) _ _ (c.enrol_customer-done.ensures m rule xs p)
 
 pub returns-in-Opened : goal.returns-in-Opened
 returns-in-Opened c m rule xs p =

@@ -8,12 +8,12 @@ use Rattle.settlement.proofs.course.Ledger.interval.Goals as goal
 
 pub returns-in-Cleared : goal.returns-in-Cleared
 returns-in-Cleared g c rule ys q =
-    found (g.M.LocationMap.market c.args.map.now) rule (Cleared c.in-Cleared.l) c.args.self c.in-Cleared.is (suppliers c.args.suppliers.now) ys (room c.args.suppliers.now) q (interval c.args.seconds c.args.shadow-prices.now c.args.targets.now (curves_of c.args.curves.now) c.args.rows.now) _ _ (c.interval-done.ensures rule ys q)
+    found (g.M.LocationMap.market c.args.map.now) rule (Cleared c.in-Cleared.l) c.args.self c.in-Cleared.is (suppliers c.args.suppliers.now) ys (room c.args.suppliers.now) q (interval c.args.seconds c.args.shadow_prices.now c.args.targets.now (curves_of c.args.curves.now) c.args.rows.now) _ _ (c.interval-done.ensures rule ys q)
 
 pub returns-in-Rest : goal.returns-in-Rest
 returns-in-Rest g c rule ys q =
-    found (g.M.LocationMap.market c.args.map.now) rule (Rest c.in-Rest.l) c.args.self c.in-Rest.is (suppliers c.args.suppliers.now) ys (room c.args.suppliers.now) q (interval c.args.seconds c.args.shadow-prices.now c.args.targets.now (curves_of c.args.curves.now) c.args.rows.now) _ _ (record { answer = refl; left = refl })
+    found (g.M.LocationMap.market c.args.map.now) rule (Rest c.in-Rest.l) c.args.self c.in-Rest.is (suppliers c.args.suppliers.now) ys (room c.args.suppliers.now) q (interval c.args.seconds c.args.shadow_prices.now c.args.targets.now (curves_of c.args.curves.now) c.args.rows.now) _ _ (record { answer = refl; left = refl })
 
 pub returns-in-Opened : goal.returns-in-Opened
 returns-in-Opened g c rule ys q =
-    found (g.M.LocationMap.market c.args.map.now) rule (Opened c.in-Opened.l) c.args.self c.in-Opened.is (suppliers c.args.suppliers.now) ys (room c.args.suppliers.now) q (interval c.args.seconds c.args.shadow-prices.now c.args.targets.now (curves_of c.args.curves.now) c.args.rows.now) _ _ (record { answer = refl; left = refl })
+    found (g.M.LocationMap.market c.args.map.now) rule (Opened c.in-Opened.l) c.args.self c.in-Opened.is (suppliers c.args.suppliers.now) ys (room c.args.suppliers.now) q (interval c.args.seconds c.args.shadow_prices.now c.args.targets.now (curves_of c.args.curves.now) c.args.rows.now) _ _ (record { answer = refl; left = refl })
