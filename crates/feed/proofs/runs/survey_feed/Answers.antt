@@ -15,15 +15,15 @@ loop-record-init c =
     (omega arith, omega (arith, ap length c.new-reader.ensures.rest), ([], sym c.new-reader.ensures.rest, refl))
 
 -- what the reader stood at, where it handed a record out
-stood : (c : goal.In-Ok-Some) → front c.loop-record.reader.rest.now ≡ whole (says c.in-Ok-Some.-record) (size (front c.loop-record.reader.rest.now))
+stood : (c : goal.In-Ok-Some) → front c.loop-record.reader.rest.now ≡ whole (says c.in-Ok-Some._record) (size (front c.loop-record.reader.rest.now))
 stood c =
-    let h : answered (Ok (Some c.in-Ok-Some.-record)) ≡ answer c.loop-record.reader.offset (front c.loop-record.reader.rest.now) = search rules in
-    answer_some c.loop-record.reader.offset (front c.loop-record.reader.rest.now) (says c.in-Ok-Some.-record) h
+    let h : answered (Ok (Some c.in-Ok-Some._record)) ≡ answer c.loop-record.reader.offset (front c.loop-record.reader.rest.now) = search rules in
+    answer_some c.loop-record.reader.offset (front c.loop-record.reader.rest.now) (says c.in-Ok-Some._record) h
 
 pub loop-record-preserved : goal.loop-record-preserved
 loop-record-preserved c =
     let bs : List ℕ = c.loop-record.reader.rest.now in
-    let e : Entry = says c.in-Ok-Some.-record in
+    let e : Entry = says c.in-Ok-Some._record in
     let es : List Entry = c.loop-record.invariant.2.0 in
     let w = front_whole e (size (front bs)) bs (stood c) in (
       omega (arith, w.0, c.next.ensures.moved),
@@ -38,7 +38,7 @@ loop-record-preserved c =
 pub loop-record-smaller : goal.loop-record-smaller
 loop-record-smaller c =
     let bs : List ℕ = c.loop-record.reader.rest.now in
-    let w = front_whole (says c.in-Ok-Some.-record) (size (front bs)) bs (stood c) in
+    let w = front_whole (says c.in-Ok-Some._record) (size (front bs)) bs (stood c) in
     omega (arith, w.0, w.1, ap length c.next.ensures.left, length-drop (size (front bs)) bs)
 
 -- where the reader stops: at offset o it answers that the feed has ended, or a refusal

@@ -45,7 +45,7 @@ invariant_of-result g c =
     let n : length (customers c.args.customers.now) ≤ most_customers = few most_customers (min c.args.customers.now.count (room c.args.customers.now)) c.args.customers.now.rows.now in
     let f : SFits w64 c.in-Ok.shares.carry = search rules in
     let small = carry_small g.S.SharingRule.share (suppliers c.args.suppliers.now) (customers c.args.customers.now) c.args.self.seconds c.args.self.cost c.args.self.carry c.args.rows.now c.in-Ok.shares n c.args.self.bounded c.args.self.small e out in
-    (subst (λ (z : ℤ). nat_abs z ≤ grains_per_cent * most_customers) (sym (to_z-of_z w64 c.in-Ok.shares.carry f)) small, tt)
+    record { small = subst (λ (z : ℤ). nat_abs z ≤ grains_per_cent * most_customers) (sym (to_z-of_z w64 c.in-Ok.shares.carry f)) small }
 
 pub returns-in-Ok : goal.returns-in-Ok
 returns-in-Ok g c m =

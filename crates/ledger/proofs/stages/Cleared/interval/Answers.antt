@@ -33,7 +33,7 @@ invariant_of-self g c =
     let fx : SFits w64 c.args.self.now.cost = search rules in
     let fy : SFits w64 c.in_ok-plan.plan.cost = search rules in
     let fxy = cost_fits c.args.self.now.cost c.in_ok-plan.plan.cost c.args.self.now.seconds c.args.seconds k b s in
-    (c.args.self.now.small, (s, (simp to_z-of_z (cost_bounded c.args.self.now.cost c.in_ok-plan.plan.cost c.args.self.now.seconds c.args.seconds k b), tt)))
+    record { small = c.args.self.now.small; timed = s; bounded = simp to_z-of_z (cost_bounded c.args.self.now.cost c.in_ok-plan.plan.cost c.args.self.now.seconds c.args.seconds k b) }
 
 pub returns : goal.returns
 returns g c rule ys q =
