@@ -7,7 +7,7 @@ use Rattle.engine.proofs.finishing.tell_end.Goals as goal
 pub returns-in-Ok : goal.returns-in-Ok
 returns-in-Ok c =
     drop_all 17710 c.args.out.now (omega arith)
-    ∙ ends_read c.args.reader.now.offset (front c.args.reader.now.rest.now) c.in-Ok.-found c.in-Ok.ensures.told
+    ∙ ends_read c.args.reader.now.offset (front c.args.reader.now.rest.now) c.in-Ok._found c.in-Ok.ensures.told
 
 pub returns-in-Err : goal.returns-in-Err
 returns-in-Err c =
