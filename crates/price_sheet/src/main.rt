@@ -24,6 +24,7 @@ use maps::FixedMap;
 use market::{ProductPrices, check_prices, clearing_prices};
 use problem::Problem;
 use std::fs;
+use std::process::ExitCode;
 use table::table_text;
 
 /// The clearing prices at each location, if every claim keeps to its demand curve.
@@ -66,15 +67,15 @@ fn run(rt: &HostRuntime) -> Result<String, Problem> {
     }
 }
 
-fn main(rt: HostRuntime) -> Result<(), Problem> {
+fn main(rt: HostRuntime) -> ExitCode {
     match run(&rt) {
-        Ok(text) => {
-            print!(rt; "{text}")?;
-            Ok(())
-        }
+        Ok(text) => match print!(rt; "{text}") {
+            Ok(()) => ExitCode::SUCCESS,
+            Err(_) => ExitCode::FAILURE,
+        },
         Err(problem) => {
-            eprintln!(rt; "price_sheet: {problem}")?;
-            Err(problem)
+            let _ = eprintln!(rt; "price_sheet: {problem}");
+            ExitCode::FAILURE
         }
     }
 }

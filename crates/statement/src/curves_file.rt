@@ -51,7 +51,7 @@ fn tell_refusal(out: &mut [u8; 64]) -> usize
     match write_line(out, line) {
         Ok(length) => length,
         // No line is longer than the buffer.
-        Err(_) => unreachable(),
+        Err(_) => unreachable!(),
     }
 }
 

@@ -14,6 +14,7 @@ use curves::CurveBook;
 use curves_file::{read_curves, refuse_curves};
 use house::settle_feed;
 use problem::Problem;
+use std::process::ExitCode;
 use streams::BUFFER;
 
 fn run(rt: &HostRuntime) -> Result<(), Problem> {
@@ -30,12 +31,12 @@ fn run(rt: &HostRuntime) -> Result<(), Problem> {
     )
 }
 
-fn main(rt: HostRuntime) -> Result<(), Problem> {
+fn main(rt: HostRuntime) -> ExitCode {
     match run(&rt) {
-        Ok(()) => Ok(()),
+        Ok(()) => ExitCode::SUCCESS,
         Err(problem) => {
             let _ = eprintln!(rt; "statement: {problem}");
-            Err(problem)
+            ExitCode::FAILURE
         }
     }
 }
