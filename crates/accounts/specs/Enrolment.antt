@@ -1,5 +1,5 @@
 -- New accounts.
-use Rattle.std.specs.Prelude.{ℕ, Bool, cond, ◌||◌, pos, ◌==◌, nat_le, nat_lt}
+use Rattle.std.specs.Prelude.{ℕ, cond, ◌||◌, pos, ◌==◌, nat_le, nat_lt}
 use Rattle.faults.specs.declared.fault.Fault.{Fault}
 use Rattle.faults.specs.declared.fault.Fault.TheVariants.{FieldOutOfRange}
 use Rattle.sums.specs.Verdict.{Verdict, want, ◌then◌}

@@ -1,5 +1,5 @@
 -- Every record of a feed is one more step of a run.
-use Rattle.std.proofs.Common.{◌≡◌, List, [], ◌∷◌, refl}
+use Rattle.std.proofs.Common.{List, [], ◌∷◌, refl}
 use Rattle.maps.specs.Market.{Market, MapLaw}
 use Rattle.curves.specs.declared.step.Step.{Step as CurveStep}
 use Rattle.sharing.specs.Rule.{Rule, Fair}

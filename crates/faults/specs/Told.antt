@@ -1,5 +1,5 @@
 -- What a refusal tells: the one definition that attaches number, layer and values to each cause.
-use Rattle.std.specs.Prelude.{ℕ, Some, None, Option}
+use Rattle.std.specs.Prelude.{ℕ, Some, None}
 use Rattle.faults.specs.declared.fault.Layer.{Layer}
 use Rattle.faults.specs.declared.fault.Layer.TheVariants.{Feed, Book, Sheet, Hour, Table}
 use Rattle.faults.specs.declared.fault.Fault.{Fault}

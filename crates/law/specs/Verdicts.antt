@@ -1,6 +1,6 @@
 -- Whether a call is accepted: its checks in their order, of which the first that fails is told. The number of the
 -- refusal stands in brackets.
-use Rattle.std.specs.Prelude.{ℕ, ◌+◌, ◌-◌, Bool, true, not, ◌&&◌, List, length, ℤ, Some, None, sum, Option, ◌==◌, nat_le, nat_lt}
+use Rattle.std.specs.Prelude.{ℕ, ◌+◌, ◌-◌, Bool, true, not, ◌&&◌, List, ℤ, Some, None, sum, Option, ◌==◌, nat_le, nat_lt}
 use Rattle.faults.specs.declared.fault.Fault.{Fault}
 use Rattle.faults.specs.declared.fault.Fault.TheVariants.{
   WrongStage,

@@ -1,25 +1,23 @@
 -- What the books' writes leave once the plan's checks have accepted, and the ledger's bounds.
-use Rattle.std.proofs.Common.{◌≡◌, ℕ, ◌+◌, ◌*◌, ◌<◌, ◌≤◌, min, Bool, true, cond, ◌&&◌, List, [], ◌∷◌, map, length, take, ℤ, pos, ◌+ℤ◌, ◌*ℤ◌, nat_abs, sum, sym, refl, ap, ◌∙◌, arith, length-take, w64, SFits, to_z, of_z}
+use Rattle.std.proofs.Common.{◌≡◌, ℕ, ◌+◌, ◌*◌, ◌≤◌, min, List, map, length, take, ℤ, pos, ◌+ℤ◌, nat_abs, sum, sym, ◌∙◌, arith, length-take, w64, SFits, to_z, of_z}
 use borrow.Author.Differences.{ints}
 use Rattle.std.proofs.lemmas.List.{length-map}
 use Rattle.std.proofs.lemmas.Int.{to_z-of_z}
-use Rattle.faults.specs.declared.fault.Fault.TheVariants.{AccountRange}
 use Rattle.sums.specs.Sums.{each}
-use Rattle.sums.specs.Verdict.{Verdict, accept, want, scan, scan_one, ◌then◌}
-use Rattle.sums.proofs.Verdicts.{both, wanted}
+use Rattle.sums.specs.Verdict.{Verdict, accept, ◌then◌}
+use Rattle.sums.proofs.Verdicts.{both}
 use Rattle.maps.specs.Market.{Market}
 use Rattle.curves.specs.declared.step.Step.{Step as CurveStep}
 use Rattle.market.specs.declared.reserves.Reserves.{Reserves}
-use Rattle.sharing.specs.Rule.{Rule, InRange}
-use Rattle.sharing.specs.Shares.{grains_per_cent, whole, shared, WellShared}
+use Rattle.sharing.specs.Rule.{Rule}
+use Rattle.sharing.specs.Shares.{grains_per_cent, whole, shared}
 use Rattle.accounts.specs.Limits.{most_customers}
 use Rattle.accounts.specs.declared.supplier.Supplier.{Supplier}
 use Rattle.accounts.specs.declared.customer.Customer.{Customer}
 use Rattle.accounts.specs.declared.schedule.ScheduleRow.{ScheduleRow}
 use Rattle.accounts.specs.declared.withdrawal.WithdrawalRow.{WithdrawalRow}
 use Rattle.accounts.specs.declared.posting.Terms.{Terms}
-use Rattle.accounts.specs.Posting.{post_clearing, post_interval, stays, settle, settles, charge, chargeable}
-use Rattle.accounts.specs.Ranges.{supplier_fits}
+use Rattle.accounts.specs.Posting.{post_clearing, post_interval, settle, charge}
 use Rattle.accounts.specs.Withdrawals.{net}
 use Rattle.accounts.specs.Terms.{post_by}
 use Rattle.books.specs.Changes.{change_each, posted_or, settled_or, charged_or}

@@ -1,12 +1,12 @@
 -- What an accepted load shows, and that padding an array changes no reply.
-use Rattle.std.proofs.Common.{◌≡◌, ℕ, zero, suc, ◌+◌, ◌*◌, ◌/◌, ◌%◌, ◌<◌, ◌≤◌, Bool, true, false, cond, ◌&&◌, ◌||◌, eqb, ltb, leb, List, length, get_or, sym, refl, ap, ◌∙◌, arith}
+use Rattle.std.proofs.Common.{◌≡◌, ℕ, zero, suc, ◌*◌, ◌/◌, ◌%◌, ◌≤◌, Bool, true, ◌&&◌, ◌||◌, eqb, ltb, leb, List, length, get_or, sym, refl, ap, ◌∙◌, arith}
 use Rattle.std.proofs.lemmas.Bool.Decides.{nat_tests}
 use Rattle.faults.specs.declared.fault.Fault.TheVariants.{MapArrays}
-use Rattle.sums.specs.Verdict.{accept, want, every, ◌then◌}
+use Rattle.sums.specs.Verdict.{accept}
 use Rattle.sums.proofs.Verdicts.{both, wanted, every_held}
 use Rattle.maps.specs.declared.product.Product.{Product}
 use Rattle.maps.specs.Market.{SameMarket, quality_of}
-use Rattle.maps.specs.Tree.{wanted_at, has_bit_lem, requirement_slots, covers, slot_counts, loaded_counts, loaded_market, ParentsFall, map_verdict, sizes_fit, is_placed_lem, parent_fits}
+use Rattle.maps.specs.Tree.{wanted_at, has_bit_lem, requirement_slots, covers, slot_counts, loaded_market, ParentsFall, map_verdict, sizes_fit, is_placed_lem}
 use Rattle.maps.specs.Slots.{slots_same}
 
 pub record Accepted (count : ℕ) (ps ms : List ℕ) : Type 0 where

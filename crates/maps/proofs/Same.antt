@@ -1,7 +1,6 @@
 -- The tree of the fixed map replies as the fixed map: a computed table inside the counts, and no outside.
-use Rattle.std.proofs.Common.{◌≡◌, ℕ, zero, suc, ◌+◌, ◌<◌, ◌≤◌, Bool, true, false, cond, ◌&&◌, eqb, ltb, ◌⊎◌, List, [], ◌∷◌, ◌++◌, get_or, replicate, sym, refl, ap, ◌∙◌, inl, inr, arith, rules}
-use Rattle.std.proofs.lemmas.Bool.{ltb-true, le-ltb, and_parts, and_left, and_right, cases_lt, true≢false}
-use Rattle.std.proofs.lemmas.Bool.Decides.{nat_tests}
+use Rattle.std.proofs.Common.{◌≡◌, ℕ, zero, suc, ◌<◌, Bool, true, false, List, [], ◌∷◌, ◌++◌, get_or, replicate, sym, refl, ◌∙◌, inl, inr, arith, rules}
+use Rattle.std.proofs.lemmas.Bool.{cases_lt}
 use Rattle.sums.specs.Verdict.{accept, accepts, every}
 use Rattle.sums.proofs.Tables.{same_all}
 use Rattle.sums.proofs.Verdicts.{every_held, accepted}
@@ -9,7 +8,7 @@ use Rattle.maps.specs.Trees.{loaded_lawful}
 use Rattle.maps.proofs.Loading.{same_market}
 use Rattle.maps.specs.declared.product.Product.{Product}
 use Rattle.maps.specs.declared.product.Product.TheVariants.{ThirtyMinute, TenMinute, Spinning}
-use Rattle.maps.specs.Market.{Market, SameMarket, MapLaw}
+use Rattle.maps.specs.Market.{SameMarket}
 use Rattle.maps.specs.Fixed.{fixed_counts, fixed_market}
 use Rattle.maps.specs.Tree.{loaded_counts, loaded_market, fixed_parents, fixed_masks, TreeRepliesAsFixed}
 

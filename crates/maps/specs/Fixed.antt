@@ -1,7 +1,6 @@
 -- The fixed map, as the tariff prints it: each clearing price is a sum of the shadow prices SP1 to SP15.
-use Rattle.std.specs.Prelude.{ℕ, ◌+◌, Bool, true, false, ◌||◌, List, [], ◌∷◌, ◌==◌, slice_index_or}
+use Rattle.std.specs.Prelude.{ℕ, ◌+◌, Bool, false, ◌||◌, List, [], ◌∷◌, ◌==◌, slice_index_or}
 use Rattle.maps.specs.declared.product.Product.{Product}
-use Rattle.maps.specs.declared.product.Product.TheVariants.{ThirtyMinute, TenMinute, Spinning}
 use Rattle.maps.specs.Market.{Market, quality_of}
 
 -- the shadow prices in the clearing price of thirty-minute, ten-minute and spinning reserve

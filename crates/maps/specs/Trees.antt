@@ -1,11 +1,10 @@
 -- A loaded map keeps the law of maps, and two that hold the same reply alike.
-use Rattle.std.specs.Prelude.{◌≡◌, ℕ, zero, suc, ◌+◌, ◌*◌, ◌/◌, ◌%◌, ◌<◌, ◌≤◌, Bool, true, false, cond, ◌&&◌, leb, List, length, nat_le, nat_lt, slice_index, refl}
-use Rattle.std.proofs.Common.{sym, ◌∙◌, ap, arith}
+use Rattle.std.specs.Prelude.{◌≡◌, ℕ, ◌*◌, ◌/◌, ◌%◌, ◌≤◌, Bool, true, ◌&&◌, leb, List, length, nat_le, nat_lt, slice_index}
+use Rattle.std.proofs.Common.{arith}
 use Rattle.std.proofs.lemmas.Bool.{and_parts, and_from, ltb-true, leb-true, le-leb}
-use Rattle.maps.specs.declared.product.Product.{Product}
-use Rattle.maps.specs.Market.{Market, MapLaw, SameMarket, quality_of}
-use Rattle.maps.specs.Tree.{slots, wanted_at, requirement_slots, covers, slot_counts, loaded_counts, loaded_market, has_bit_lem}
-use Rattle.maps.specs.Slots.{slots_few, slots_same}
+use Rattle.maps.specs.Market.{MapLaw}
+use Rattle.maps.specs.Tree.{wanted_at, requirement_slots, covers, loaded_market}
+use Rattle.maps.specs.Slots.{slots_few}
 
 -- a better product counts where a worse one does
 better : (a b : Bool) (x : Bool) (s q r : ℕ) → q ≤ r → (a && (b && (x && nat_le s q))) ≡ true → (a && (b && (x && nat_le s r))) ≡ true

@@ -1,5 +1,5 @@
 -- Better reserve is never cheaper, since it counts wherever worse does.
-use Rattle.std.proofs.Common.{ℕ, List, get_or}
+use Rattle.std.proofs.Common.{get_or}
 use Rattle.sums.specs.Sums.{upto}
 use Rattle.sums.proofs.SumLaws.{sum_by_mono, when_mono}
 use Rattle.maps.specs.declared.product.Product.TheVariants.{ThirtyMinute, TenMinute, Spinning}

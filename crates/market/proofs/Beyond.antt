@@ -1,6 +1,6 @@
 -- Past a map's counts nothing counts, so prices and quantities are 0 there.
-use Rattle.std.proofs.Common.{◌≡◌, ℕ, ◌≤◌, Bool, true, false, List, get_or, sym, refl, ap, ◌∙◌, arith}
-use Rattle.sums.specs.Sums.{upto, when}
+use Rattle.std.proofs.Common.{◌≡◌, ℕ, ◌≤◌, Bool, true, false, List, get_or, refl, ap, arith}
+use Rattle.sums.specs.Sums.{when}
 use Rattle.sums.proofs.SumLaws.{upto_none}
 use Rattle.maps.specs.declared.product.Product.{Product}
 use Rattle.maps.specs.declared.product.Product.TheVariants.{ThirtyMinute, TenMinute, Spinning}

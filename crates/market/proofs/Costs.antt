@@ -1,5 +1,5 @@
 -- The cost counted by requirement is what suppliers and products earn.
-use Rattle.std.proofs.Common.{◌≡◌, ℕ, zero, suc, ◌+◌, ◌*◌, Bool, true, false, List, [], ◌∷◌, length, get_or, ℤ, pos, ◌+ℤ◌, ◌-ℤ◌, ◌*ℤ◌, sym, refl, ap, ◌∙◌, arith}
+use Rattle.std.proofs.Common.{◌≡◌, ℕ, List, [], ◌∷◌, length, get_or, ℤ, pos, ◌+ℤ◌, ◌-ℤ◌, ◌*ℤ◌, sym, refl, ap, ◌∙◌, arith}
 use borrow.Author.Differences.{ints}
 use Rattle.sums.specs.Sums.{sum_z, when, when_z, upto}
 use Rattle.sums.proofs.Ring.{distr_sub_l}

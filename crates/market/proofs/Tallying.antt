@@ -1,16 +1,15 @@
 -- Totals by location against the sums of the definition.
-use Rattle.std.proofs.Common.{◌≡◌, ℕ, zero, suc, ◌+◌, ◌-◌, ◌*◌, ◌^◌, ◌<◌, ◌≤◌, Bool, true, false, ◌≢◌, ◌⊎◌, List, [], ◌∷◌, length, get_or, take, set, sum_by, sym, refl, ap, ◌∙◌, subst, inl, inr, add-one, arith}
+use Rattle.std.proofs.Common.{◌≡◌, ℕ, zero, suc, ◌+◌, ◌*◌, ◌^◌, ◌<◌, ◌≤◌, Bool, true, false, ◌⊎◌, List, [], ◌∷◌, length, get_or, take, set, sum_by, sym, refl, ap, ◌∙◌, subst, inl, inr, add-one, arith}
 use Rattle.std.proofs.lemmas.List.Sums.{sum_by-cons}
-use Rattle.std.proofs.lemmas.List.{get_or-set_same, get_or-set_other, set_past, length-set, length-take-le, length-take, take_all}
+use Rattle.std.proofs.lemmas.List.{get_or-set_same, get_or-set_other, set_past, length-set, length-take-le, length-take}
 use Rattle.std.proofs.lemmas.Bool.{cases_lt}
 use Rattle.sums.specs.Sums.{upto, when}
 use Rattle.sums.proofs.SumLaws.{upto_none, upto_at_most}
-use Rattle.maps.specs.declared.product.Product.{Product}
 use Rattle.maps.specs.declared.product.Product.TheVariants.{ThirtyMinute, TenMinute, Spinning}
 use Rattle.maps.specs.Market.{Market, MapLaw}
 use Rattle.market.specs.declared.reserves.Reserves.{Reserves}
 use Rattle.market.specs.declared.quantity.Totals.{Totals}
-use Rattle.market.specs.Prices.{Located, located, products, tenths, none_reserved, toward, quantity}
+use Rattle.market.specs.Prices.{Located, located, none_reserved, toward, quantity}
 use Rattle.market.specs.Totals.{no_totals, counted, AtMost, plus, added, Tallies}
 use Rattle.market.proofs.Beyond.{not_located, not_required}
 

@@ -1,5 +1,5 @@
 -- The check of prices as a chain, and what accepted prices show.
-use Rattle.std.proofs.Common.{◌≡◌, ℕ, true, List, length, get_or, IfOk, Ok, Err, sym, ap, ◌∙◌, arith}
+use Rattle.std.proofs.Common.{◌≡◌, ℕ, List, length, get_or, IfOk, Ok, Err, sym, ap, ◌∙◌, arith}
 use Rattle.std.proofs.lemmas.Bool.{leb-true}
 use Rattle.faults.specs.declared.fault.Fault.{Fault}
 use Rattle.faults.specs.declared.fault.Fault.TheVariants.{AboveDemandCurve, PriceOrTargetOutOfRange}

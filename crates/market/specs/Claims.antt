@@ -1,5 +1,5 @@
 -- Whether shadow prices may be claimed: as many as the requirements, in range, and within their demand curves.
-use Rattle.std.specs.Prelude.{◌≡◌, ℕ, ◌<◌, ◌≤◌, Bool, ◌&&◌, List, length, ◌==◌, nat_le, slice_index}
+use Rattle.std.specs.Prelude.{ℕ, ◌<◌, ◌≤◌, Bool, ◌&&◌, List, length, ◌==◌, nat_le, slice_index}
 use Rattle.faults.specs.declared.fault.Fault.{Fault}
 use Rattle.faults.specs.declared.fault.Fault.TheVariants.{RequirementCount, PriceOrTargetOutOfRange, AboveDemandCurve}
 use Rattle.sums.specs.Verdict.{Verdict, want, every, ◌then◌}

@@ -1,5 +1,5 @@
 -- Tenths added up by location, an intermediate table of the quantities.
-use Rattle.std.specs.Prelude.{◌≡◌, ℕ, ◌+◌, ◌*◌, ◌^◌, ◌≤◌, min, List, length, get_or, sum_by, slice_index_or, slice_set}
+use Rattle.std.specs.Prelude.{◌≡◌, ℕ, ◌+◌, ◌*◌, ◌^◌, ◌≤◌, List, length, get_or, sum_by, slice_index_or, slice_set}
 use Rattle.sums.specs.Sums.{upto, when}
 use Rattle.maps.specs.declared.product.Product.TheVariants.{ThirtyMinute, TenMinute, Spinning}
 use Rattle.maps.specs.Market.{Market, MapLaw}

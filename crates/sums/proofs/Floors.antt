@@ -1,10 +1,10 @@
 -- Laws of floor division.
-use Rattle.std.proofs.Common.{◌≡◌, ℕ, ◌+◌, ◌-◌, ◌*◌, ◌/◌, ◌%◌, ◌<◌, ◌≤◌, ℤ, pos, negsuc, ◌+ℤ◌, ◌-ℤ◌, ◌*ℤ◌, neg_ℤ, ◌≤ℤ◌, ◌<ℤ◌, sym, refl, ap, ◌∙◌, mul-le-mul_left, arith}
+use Rattle.std.proofs.Common.{◌≡◌, ℕ, ◌+◌, ◌*◌, ◌<◌, ◌≤◌, ℤ, pos, negsuc, ◌+ℤ◌, ◌*ℤ◌, ◌≤ℤ◌, ◌<ℤ◌, ap, ◌∙◌, mul-le-mul_left, arith}
 use lib.IntN.{*ℤ_comm}
 use lib.Signed.{clash_ℤ}
 use borrow.Author.Differences.{ints, up, down}
 use Rattle.std.proofs.lemmas.Int.{by_lt_z}
-use Rattle.sums.specs.Floor.{floor, remainder}
+use Rattle.sums.specs.Floor.{floor}
 use Rattle.sums.specs.Laws.{FloorDivides}
 use Rattle.sums.proofs.Ring.{distr_l}
 

@@ -1,5 +1,5 @@
 -- Distributivity and associativity of integers. `omega (arith, ints)` does the linear rest.
-use Rattle.std.proofs.Common.{◌≡◌, ℕ, ◌+◌, ◌*◌, ℤ, pos, ◌+ℤ◌, ◌-ℤ◌, ◌*ℤ◌, neg_ℤ, sym, refl, ap, ◌∙◌, arith}
+use Rattle.std.proofs.Common.{◌≡◌, ℕ, ◌+◌, ◌*◌, ℤ, pos, ◌+ℤ◌, ◌-ℤ◌, ◌*ℤ◌, neg_ℤ, ap, ◌∙◌, arith}
 use lib.IntN.{ -ℤ-+ℤ_cancel, *ℤ_comm, *ℤ-zero, +ℤ_invr}
 use borrow.Author.Differences.{ints, up, down, sum_is_lem, product_is, same_in}
 

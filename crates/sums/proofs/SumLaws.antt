@@ -1,11 +1,11 @@
 -- Laws of sums over lists, signed and unsigned.
-use Rattle.std.proofs.Common.{◌≡◌, ℕ, zero, suc, ◌+◌, ◌*◌, ◌≤◌, Bool, true, false, cond, List, [], ◌∷◌, ◌++◌, map, ℤ, pos, negsuc, ◌+ℤ◌, ◌-ℤ◌, ◌*ℤ◌, neg_ℤ, sum_by, sym, refl, ap, ◌∙◌, suc-mul, add-one, arith}
+use Rattle.std.proofs.Common.{◌≡◌, ℕ, zero, suc, ◌+◌, ◌*◌, ◌≤◌, Bool, true, false, List, [], ◌∷◌, ◌++◌, map, ℤ, pos, ◌+ℤ◌, ◌-ℤ◌, ◌*ℤ◌, sum_by, sym, refl, ap, ◌∙◌, suc-mul, add-one, arith}
 use lib.IntN.{*ℤ-zero, zero-*ℤ}
 use borrow.Author.Differences.{ints}
 use Rattle.std.proofs.lemmas.List.Sums.{sum_by-cons}
 use Rattle.std.proofs.lemmas.Bool.{both_ways}
 use Rattle.sums.specs.Sums.{sum_z, when, when_z, upto}
-use Rattle.sums.proofs.Ring.{distr_r, distr_l, *ℤ-assoc}
+use Rattle.sums.proofs.Ring.{distr_r, distr_l}
 
 module _ {X : Type 0} where
   pub sum_ext : (f g : X → ℤ) → ((x : X) → f x ≡ g x) → (xs : List X) → sum_z f xs ≡ sum_z g xs

@@ -1,8 +1,8 @@
 -- What the definitions of this crate are for, as statements that contracts name.
-use Rattle.std.specs.Prelude.{◌≡◌, ℕ, ◌<◌, ◌≤◌, Bool, true, false, List, ℤ, pos, ◌+ℤ◌, ◌*ℤ◌, Ok, Err}
+use Rattle.std.specs.Prelude.{◌≡◌, ℕ, ◌<◌, Bool, true, false, List, ℤ, pos, ◌+ℤ◌, ◌*ℤ◌, Err}
 use Rattle.sums.specs.Sums.{sum_z}
 use Rattle.sums.specs.Floor.{floor, remainder}
-use Rattle.sums.specs.Verdict.{Verdict, accept, every}
+use Rattle.sums.specs.Verdict.{accept, every}
 
 -- a double sum may be taken in either order
 abbrev pub SumsExchange : Type 0 → Type 0 → Type 0

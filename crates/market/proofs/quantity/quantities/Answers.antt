@@ -1,8 +1,7 @@
-use Rattle.std.proofs.Common.{◌≡◌, ℕ, ◌^◌, ◌<◌, ◌≤◌, ◌⊎◌, map, length, get_or, sym, refl, ap, ◌∙◌, inl, inr, arith, length-set, rules}
+use Rattle.std.proofs.Common.{◌≡◌, ℕ, ◌^◌, ◌<◌, ◌≤◌, map, length, get_or, refl, ◌∙◌, inl, inr, arith, length-set}
 use Rattle.std.proofs.lemmas.List.{length-map, get_or-set_other}
 use Rattle.std.proofs.lemmas.Bool.{cases_lt}
 use Rattle.sums.proofs.Tables.{same_all, table_more}
-use Rattle.market.specs.Totals.{no_totals, AtMost}
 use Rattle.market.specs.Prices.{quantity}
 use Rattle.market.proofs.Tallying.{at_most_of, quantity_beyond, quantity_at_most}
 use Rattle.market.proofs.quantity.quantities.Goals as goal

@@ -1,4 +1,4 @@
-use Rattle.std.proofs.Common.{◌≡◌, ℕ, ◌*◌, ◌^◌, ◌≤◌, get_or, sum_by}
+use Rattle.std.proofs.Common.{◌≡◌, ◌*◌, ◌^◌, ◌≤◌, get_or, sum_by}
 use Rattle.sums.specs.Sums.{upto}
 use Rattle.market.specs.Totals.{no_totals, counted}
 use Rattle.market.proofs.quantity.quantity_toward.Given as goal

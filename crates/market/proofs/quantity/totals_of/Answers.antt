@@ -1,9 +1,8 @@
-use Rattle.std.proofs.Common.{◌≡◌, ℕ, ◌+◌, ◌^◌, ◌<◌, ◌≤◌, ◌⊎◌, map, length, get_or, take, sym, refl, ap, ◌∙◌, subst, inl, inr, arith}
+use Rattle.std.proofs.Common.{◌≡◌, ◌+◌, ◌^◌, ◌<◌, ◌≤◌, ◌⊎◌, map, length, get_or, take, sym, refl, ap, ◌∙◌, subst, inl, inr, arith}
 use Rattle.std.proofs.lemmas.List.{get_or-map, length-map, length-take}
 use Rattle.sums.proofs.Tables.{same_all}
-use Rattle.market.specs.declared.reserves.Reserves.{Reserves}
 use Rattle.market.specs.Prices.{none_reserved}
-use Rattle.market.specs.Totals.{Tallies, added, no_totals}
+use Rattle.market.specs.Totals.{Tallies, no_totals}
 use Rattle.market.proofs.Tallying.{tallies_none, tallies_more, tallies_all, at_most_of}
 use Rattle.market.proofs.quantity.totals_of.Goals as goal
 use Rattle.market.proofs.quantity.totals_of.Goals.{then-places-rows, else-places-rows}

@@ -14,7 +14,7 @@ use Rattle.books.specs.Changes.{change_each, charged_or}
 use Rattle.law.specs.Ledger.{nets}
 use Rattle.law.specs.Verdicts.{closing_verdict}
 use Rattle.law.proofs.Steps.{close_refused, close_taken}
-use Rattle.ledger.proofs.Writing.{grains_are, withdrawn, closed_suppliers, closed_customers, carry_small, few, rows_few}
+use Rattle.ledger.proofs.Writing.{grains_are, closed_suppliers, closed_customers, carry_small, few, rows_few}
 use Rattle.ledger.proofs.stages.Cleared.close.Goals as goal
 
 -- the verdict on the sum that the code makes is the verdict on the sum

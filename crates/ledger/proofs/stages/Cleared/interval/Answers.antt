@@ -1,11 +1,11 @@
-use Rattle.std.proofs.Common.{◌≡◌, ℕ, ◌+◌, ◌*◌, ◌≤◌, ℤ, ◌+ℤ◌, nat_abs, refl, ap, ◌∙◌, arith, w64, SFits, rules}
+use Rattle.std.proofs.Common.{◌+◌, ◌*◌, ◌≤◌, ℤ, ◌+ℤ◌, nat_abs, refl, ap, ◌∙◌, w64, SFits, rules}
 use Rattle.std.proofs.lemmas.Result.{err_from_is_err_and}
-use Rattle.std.proofs.lemmas.Int.{ints, to_z-of_z}
+use Rattle.std.proofs.lemmas.Int.{to_z-of_z}
 use Rattle.books.specs.Books.{suppliers, room}
 use Rattle.curves.specs.Book.{curves_of}
 use Rattle.law.specs.Ledger.{hour_seconds}
 use Rattle.law.proofs.Steps.{interval_refused, interval_taken}
-use Rattle.planning.specs.Plans.{most_cost, PlannedInterval}
+use Rattle.planning.specs.Plans.{most_cost}
 use Rattle.ledger.proofs.Writing.{settled_each, time_left, cost_fits, cost_bounded}
 use Rattle.ledger.proofs.stages.Cleared.interval.Goals as goal
 

@@ -1,9 +1,8 @@
-use Rattle.std.proofs.Common.{◌≡◌, ℕ, ℤ, pos, ◌∙◌, w64, SFits, rules}
+use Rattle.std.proofs.Common.{pos, ◌∙◌, w64, SFits, rules}
 use Rattle.std.proofs.lemmas.Int.{to_z-of_z}
 use Rattle.books.specs.Books.{suppliers, room}
 use Rattle.curves.specs.Book.{curves_of}
 use Rattle.law.proofs.Steps.{clear_refused, clear_taken}
-use Rattle.planning.specs.Plans.{PlannedClearing}
 use Rattle.ledger.proofs.Writing.{cleared_each, from_none}
 use Rattle.ledger.proofs.stages.Opened.clear.Goals as goal
 

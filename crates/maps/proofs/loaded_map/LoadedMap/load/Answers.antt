@@ -1,4 +1,4 @@
-use Rattle.std.proofs.Common.{◌≡◌, ℕ, ◌≤◌, length, sym, ap, arith}
+use Rattle.std.proofs.Common.{length, ap, arith}
 use Rattle.maps.proofs.Loading.{accepted, falls_alike, slots_alike, same_market}
 use Rattle.maps.proofs.loaded_map.LoadedMap.load.Goals as goal
 

@@ -1,4 +1,4 @@
-use Rattle.std.proofs.Common.{◌≡◌, length, sym, ◌∙◌, arith, rules}
+use Rattle.std.proofs.Common.{length, sym, ◌∙◌, arith, rules}
 use Rattle.faults.specs.declared.fault.Fault.TheVariants.{MapArrays}
 use Rattle.sums.proofs.Verdicts.{every_bad, every_good, every_end}
 use Rattle.maps.specs.Tree.{is_placed_lem}

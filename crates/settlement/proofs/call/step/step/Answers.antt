@@ -1,9 +1,6 @@
-use mathlib.Core.List.{List}
 use Rattle.books.specs.Books.{suppliers, customers, room}
 use Rattle.curves.specs.Book.{curves_of}
-use Rattle.law.specs.Run.{Fed, Run}
 use Rattle.law.proofs.Steps.{kept_after}
-use Rattle.settlement.specs.Calls.{asked}
 use Rattle.settlement.specs.Course.{state}
 use Rattle.settlement.specs.declared.call.Call.TheVariants.{EnrolSupplier, EnrolCustomer, Open, Clear, Interval, Close, Void}
 use Rattle.settlement.proofs.Found.{called}

@@ -1,6 +1,5 @@
 use mathlib.Core.Path.{refl}
 use Rattle.books.specs.Books.{suppliers, customers, room}
-use Rattle.curves.specs.Book.{curves_of}
 use Rattle.law.specs.Ledger.{close}
 use Rattle.settlement.specs.declared.course.Ledger.TheVariants.{Rest, Opened, Cleared}
 use Rattle.settlement.proofs.Found.{found}
