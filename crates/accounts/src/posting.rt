@@ -4,7 +4,7 @@ ghost use Rattle.market.specs.Prices.{over};
 ghost use Rattle.market.specs.Tables.{no_prices};
 ghost use Rattle.accounts.specs.Outcomes.{provided};
 ghost use Rattle.accounts.specs.Ranges.{most_amount, amount_fits_lem, supplier_fits};
-ghost use Rattle.accounts.specs.Terms.{earned as earns, paid_for, hour_by_lem, ahead_by_lem, post_by};
+ghost use Rattle.accounts.specs.Terms.{earned as earns, paid_for, earned_by, hour_by_lem, ahead_by_lem, post_by};
 
 use crate::ranges::{added, in_range};
 use crate::supplier::Supplier;
@@ -132,6 +132,15 @@ impl Supplier {
         }
     }
 
+    /// What the row earns in a second.
+    fn earned_by(&self, terms: &Terms, reserves: &Reserves) -> i128
+        ensures { result ≡ earned_by terms.now self.now reserves.now }
+    {
+        let prices = prices_at(&terms.prices, self.location as usize);
+        let paid = self.paid_for(terms);
+        earned(&prices, reserves, &paid)
+    }
+
     /// The day-ahead schedule with the row posted.
     fn ahead_by(&self, terms: &Terms, reserves: Reserves) -> Reserves
         ensures { result ≡ ahead_by_lem terms.now self.now reserves }
@@ -151,7 +160,7 @@ impl Supplier {
                 return grown_narrowly(self.hour, in_second, terms.seconds);
             }
         }
-        grown(self.hour, earned(&prices, reserves, &paid), terms.seconds)
+        grown(self.hour, self.earned_by(terms, reserves), terms.seconds)
     }
 
     /// The account with its row posted, if it is in its ranges and stays there.

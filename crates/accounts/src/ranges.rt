@@ -8,9 +8,9 @@ use crate::supplier::{GRAINS_PER_CENT, MOST_TENTHS, Supplier};
 use market::Reserves;
 
 /// The furthest that cents, or the hour's grains, go from 0.
-const MOST_AMOUNT: i128 = NARROW_MOST_AMOUNT as i128;
+const MOST_AMOUNT: i128 = 4_000_000_000_000_000_000;
 
-const NARROW_MOST_AMOUNT: i64 = 4_000_000_000_000_000_000;
+const NARROW_MOST_AMOUNT: i64 = MOST_AMOUNT as i64;
 
 /// Whether a number of 64 bits is in the range of cents and grains.
 pub(crate) fn in_range(number: i64) -> bool
