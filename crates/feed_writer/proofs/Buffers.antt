@@ -1,7 +1,7 @@
 -- Writing into a buffer, piece after piece.
 use Rattle.std.proofs.Common.{◌≡◌, ℕ, ◌+◌, ◌*◌, ◌<◌, ◌≤◌, List, [], ◌∷◌, ◌++◌, length, get_or, take, drop, sym, refl, ap, ◌∙◌, subst, add-zero, mul-le-mul_left, mul-add, arith}
 use borrow.Rule.Slice.PartMut.{put_mid}
-use Rattle.std.specs.List.{flat_map, AllByRecursion as All}
+use Rattle.std.specs.List.{flat_map, AllByRecursion}
 use Rattle.std.proofs.ByRecursion.{All-more}
 use Rattle.std.proofs.lemmas.List.{append_assoc, length-append, length-take-le, take_at, drop_at, take-append-drop, drop-drop, take_more, take_all, flat_map_more}
 use Rattle.accounts.specs.declared.schedule.ScheduleRow.{ScheduleRow}
@@ -58,11 +58,11 @@ module _ {X : Type 0} (f : X → List ℕ) (k : ℕ) (l : (x : X) → length (f 
 
 -- ---- a loop that sees that P holds of each element
 module _ {X : Type 0} (P : X → Type 0) (xs : List X) (i : ℕ) where
-  pub each_more : (x : X) → i < length xs → x ≡ get_or xs i x → All P (take i xs) → P x → All P (take (i + 1) xs)
+  pub each_more : (x : X) → i < length xs → x ≡ get_or xs i x → AllByRecursion P (take i xs) → P x → AllByRecursion P (take (i + 1) xs)
   each_more x lt e p h = All-more P xs i x lt p (subst P e h)
 
-  pub each_all : length xs ≤ i → All P (take i xs) → All P xs
-  each_all h p = subst (All P) (take_all i xs h) p
+  pub each_all : length xs ≤ i → AllByRecursion P (take i xs) → AllByRecursion P xs
+  each_all h p = subst (AllByRecursion P) (take_all i xs h) p
 
 -- ---- how long the pieces are
 pub length_bytes16 : (n : ℕ) → length (bytes16 n) ≡ 2

@@ -1,6 +1,6 @@
 -- A curve book file that is written, and read back.
 use Rattle.std.proofs.Common.{◌≡◌, ℕ, zero, suc, ◌+◌, ◌*◌, ◌<◌, ◌≤◌, true, leb, List, [], ◌∷◌, ◌++◌, map, length, get_or, take, Ok, sym, refl, ap, ◌∙◌, subst, add-one, arith}
-use Rattle.std.specs.List.{range_with_len, AllByRecursion as All}
+use Rattle.std.specs.List.{range_with_len, AllByRecursion}
 use Rattle.std.proofs.ByRecursion.{All-get_or, All-from_get_or, All-append}
 use Rattle.std.proofs.lemmas.List.{append_assoc, length-append, take_all, take_at, get_or_default}
 use Rattle.std.proofs.lemmas.Bool.{le-leb}
@@ -40,10 +40,10 @@ number_at c ss j h w =
 abbrev Small : Step → Type 0
 Small s = Word s.margin × Word s.price
 
-curve_small : (ss : List Step) → IsCurve ss → All Small ss
+curve_small : (ss : List Step) → IsCurve ss → AllByRecursion Small ss
 curve_small ss h = All-from_get_or Small ss no_step (λ i l. (omega (arith, h.margins i l), omega (arith, (h.prices i l).1)))
 
-all_small : (cs : List (List Step)) → ((k : ℕ) → k < length cs → IsCurve (get_or cs k [])) → All Small (all_steps cs)
+all_small : (cs : List (List Step)) → ((k : ℕ) → k < length cs → IsCurve (get_or cs k [])) → AllByRecursion Small (all_steps cs)
 all_small [] h = tt
 all_small (ss ∷ cs) h = All-append Small ss (all_steps cs) (curve_small ss (h 0 (omega arith))) (all_small cs (λ k l. h (suc k) (omega arith)))
 

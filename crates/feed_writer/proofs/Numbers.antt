@@ -2,7 +2,7 @@
 use Rattle.std.proofs.Common.{◌≡◌, ℕ, zero, suc, ◌+◌, ◌*◌, ◌/◌, ◌%◌, ◌<◌, ◌≤◌, List, [], ◌∷◌, ◌++◌, map, length, get_or, sym, refl, ap, ◌∙◌, subst, mod-eq_of_lt, mul-suc, arith, w32, to_z, of_z}
 use native.Mathlib.Nat.{div-div-eq-div-mul}
 use mir.Facts.{Fits-of_z}
-use Rattle.std.specs.List.{range_with_len, flat_map, AllByRecursion as All}
+use Rattle.std.specs.List.{range_with_len, flat_map, AllByRecursion}
 use Rattle.std.proofs.lemmas.Nat.{div-add-mod', div_below}
 use Rattle.std.proofs.ByRecursion.{All-get_or}
 use Rattle.std.proofs.lemmas.List.{get_or_append_left, get_or-append-add}
@@ -91,12 +91,12 @@ by_places_from (x ∷ xs) f a h =
 pub by_places : {X : Type 0} (xs : List X) (f : ℕ → X) → ((d : X) (i : ℕ) → i < length xs → f i ≡ get_or xs i d) → map f (range_with_len 0 (length xs)) ≡ xs
 by_places xs f h = by_places_from xs f 0 (λ d i l. ap f (omega arith) ∙ h d i l)
 
-pub numbers_back : (ns : List ℕ) → All Word ns → numbers_in (flat_map bytes32 ns) (length ns) ≡ ns
+pub numbers_back : (ns : List ℕ) → AllByRecursion Word ns → numbers_in (flat_map bytes32 ns) (length ns) ≡ ns
 numbers_back ns h =
     by_places ns (number_in (flat_map bytes32 ns))
     (λ d i l. in_joined bytes32 4 length_bytes32 ns i 0 (4 * i) d l (omega arith) (omega arith) ∙ number_back (get_or ns i d) (All-get_or Word ns i d l h))
 
-module _ {X : Type 0} (number : X → ℕ) (xs : List X) (h : All (λ x. Word (number x)) xs) where
+module _ {X : Type 0} (number : X → ℕ) (xs : List X) (h : AllByRecursion (λ x. Word (number x)) xs) where
   number_of_row : (i : ℕ) (d : X) → i < length xs → number_in (number_bytes number xs) i ≡ number (get_or xs i d)
   number_of_row i d l =
       in_joined (λ x. bytes32 (number x)) 4 (λ x. length_bytes32 (number x)) xs i 0 (4 * i) d l (omega arith) (omega arith)
@@ -136,7 +136,7 @@ unfolding withdrawal_bytes bytes32
 withdrawal_exports r h = back32 r.exports h.exports
 
 -- ---- all rows
-module _ (rs : List ScheduleRow) (h : All (λ r. Word r.number) rs) (g : All ScheduleFits rs) where
+module _ (rs : List ScheduleRow) (h : AllByRecursion (λ r. Word r.number) rs) (g : AllByRecursion ScheduleFits rs) where
   schedule_back : (i : ℕ) (d : ScheduleRow) → i < length rs → schedule_row (number_bytes (λ r. r.number) rs) (flat_map schedule_bytes rs) i ≡ get_or rs i d
   schedule_back i d l =
       let r : ScheduleRow = get_or rs i d in
@@ -154,7 +154,7 @@ module _ (rs : List ScheduleRow) (h : All (λ r. Word r.number) rs) (g : All Sch
   pub schedules_back : schedule_rows (number_bytes (λ r. r.number) rs) (flat_map schedule_bytes rs) (length rs) ≡ rs
   schedules_back = by_places rs _ (λ d i l. schedule_back i d l)
 
-module _ (rs : List WithdrawalRow) (h : All (λ r. Word r.number) rs) (g : All WithdrawalFits rs) where
+module _ (rs : List WithdrawalRow) (h : AllByRecursion (λ r. Word r.number) rs) (g : AllByRecursion WithdrawalFits rs) where
   withdrawal_back : (i : ℕ) (d : WithdrawalRow) → i < length rs → withdrawal_row (number_bytes (λ r. r.number) rs) (flat_map withdrawal_bytes rs) i ≡ get_or rs i d
   withdrawal_back i d l =
       let r : WithdrawalRow = get_or rs i d in

@@ -1,6 +1,6 @@
 -- Records that are written, and read back.
 use Rattle.std.proofs.Common.{◌≡◌, ℕ, ◌+◌, ◌*◌, true, leb, List, [], ◌∷◌, ◌++◌, length, drop, Some, Ok, sym, refl, ap, ◌∙◌, arith}
-use Rattle.std.specs.List.{flat_map, AllByRecursion as All}
+use Rattle.std.specs.List.{flat_map, AllByRecursion}
 use Rattle.std.proofs.lemmas.List.{append_assoc, length-append, take_at, drop_at}
 use Rattle.std.proofs.lemmas.Bool.{and_parts, eqb-true, le-leb}
 use Rattle.accounts.specs.declared.withdrawal.WithdrawalRow.{WithdrawalRow}
@@ -42,7 +42,7 @@ headed k n m b later a l =
     ∙ rw (a, fits, take_at b later (body_length_lem k n m) l)
 
 -- ---- bodies
-numbers_first : (ns rest : List ℕ) → All Word ns → numbers_in (flat_map bytes32 ns ++ rest) (length ns) ≡ ns
+numbers_first : (ns rest : List ℕ) → AllByRecursion Word ns → numbers_in (flat_map bytes32 ns ++ rest) (length ns) ≡ ns
 numbers_first ns rest h =
     sym (numbers_cut (flat_map bytes32 ns ++ rest) (4 * length ns) (length ns) (omega arith))
     ∙ ap (λ b. numbers_in b (length ns)) (take_at (flat_map bytes32 ns) rest _ (length_numbers ns))

@@ -1,7 +1,7 @@
 -- Values that the fields of a record can hold.
 use Rattle.std.specs.Prelude.{ℕ, ◌^◌, ◌<◌, List, FitsSigned}
 use Rattle.std.specs.Int.{w32}
-use Rattle.std.specs.List.{AllByRecursion as All}
+use Rattle.std.specs.List.{AllByRecursion}
 use Rattle.accounts.specs.declared.schedule.ScheduleRow.{ScheduleRow}
 use Rattle.accounts.specs.declared.withdrawal.WithdrawalRow.{WithdrawalRow}
 use Rattle.feed.specs.declared.record.NewSupplier.{NewSupplier}
@@ -35,14 +35,14 @@ pub record WithdrawalFits (r : WithdrawalRow) : Type 0 where
   pub exports : Word r.exports
 
 pub record SheetFits (s : SheetValues) : Type 0 where
-  pub prices : All Word s.prices
-  pub targets : All Word s.targets
-  pub numbers : All (λ r. Word r.number) s.rows
-  pub rows : All ScheduleFits s.rows
+  pub prices : AllByRecursion Word s.prices
+  pub targets : AllByRecursion Word s.targets
+  pub numbers : AllByRecursion (λ r. Word r.number) s.rows
+  pub rows : AllByRecursion ScheduleFits s.rows
 
 pub record ClosingFits (rs : List WithdrawalRow) : Type 0 where
-  pub numbers : All (λ r. Word r.number) rs
-  pub rows : All WithdrawalFits rs
+  pub numbers : AllByRecursion (λ r. Word r.number) rs
+  pub rows : AllByRecursion WithdrawalFits rs
 
 abbrev pub Fitting : Entry → Type 0
 Fitting (supplier s) = SupplierFits s

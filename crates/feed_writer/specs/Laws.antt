@@ -1,6 +1,6 @@
 -- What is written reads back.
 use Rattle.std.specs.Prelude.{◌≡◌, ℕ, true, List, ◌++◌}
-use Rattle.std.specs.List.{flat_map, AllByRecursion as All}
+use Rattle.std.specs.List.{flat_map, AllByRecursion}
 use Rattle.feed.specs.Entries.{Entry}
 use Rattle.feed.specs.Front.{front, whole}
 use Rattle.feed.specs.Runs.{Reads}
@@ -14,4 +14,4 @@ RecordBackLaw = (e : Entry) (later : List ℕ) → writable e ≡ true → Fitti
 
 -- any number of records, written one after another, one by one
 abbrev pub FeedBackLaw : Type 0
-FeedBackLaw = (es : List Entry) (later : List ℕ) → All (λ e. (writable e ≡ true) × Fitting e) es → Reads (flat_map bytes_of es ++ later) es later
+FeedBackLaw = (es : List Entry) (later : List ℕ) → AllByRecursion (λ e. (writable e ≡ true) × Fitting e) es → Reads (flat_map bytes_of es ++ later) es later

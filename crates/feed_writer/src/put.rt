@@ -1,6 +1,6 @@
 //! Numbers and rows written into a buffer, lowest byte first.
 ghost use Rattle.std.specs.Prelude.{◌≡◌, ◌+◌, ◌*◌, ◌≤◌, length};
-ghost use Rattle.std.specs.List.{flat_map, AllByRecursion as All};
+ghost use Rattle.std.specs.List.{flat_map, AllByRecursion};
 ghost use Rattle.feed_writer.specs.Bytes.{bytes16, bytes32, number_bytes, schedule_bytes, withdrawal_bytes, written};
 ghost use Rattle.feed_writer.specs.Fitting.{Word, ScheduleFits, WithdrawalFits};
 
@@ -26,7 +26,7 @@ pub(crate) fn put_u32(out: &mut [u8], at: usize, x: u32)
 pub(crate) fn put_numbers(out: &mut [u8], at: usize, numbers: &[u32])
     requires { at + 4 * length numbers.now ≤ length out.old }
     ensures holds { out.new ≡ written at (flat_map bytes32 numbers.now) out.old }
-    ensures fits { All Word numbers.now }
+    ensures fits { AllByRecursion Word numbers.now }
 {
     for (i, number) in numbers.iter().enumerate() {
         put_u32(out, at + 4 * i, *number);
@@ -37,7 +37,7 @@ pub(crate) fn put_numbers(out: &mut [u8], at: usize, numbers: &[u32])
 pub(crate) fn put_row_numbers<R: Numbered>(out: &mut [u8], at: usize, rows: &[R])
     requires { at + 4 * length rows.now ≤ length out.old }
     ensures holds { out.new ≡ written at (number_bytes R.Numbered.numbered rows.now) out.old }
-    ensures fits { All (λ r. Word (R.Numbered.numbered r)) rows.now }
+    ensures fits { AllByRecursion (λ r. Word (R.Numbered.numbered r)) rows.now }
 {
     for (i, row) in rows.iter().enumerate() {
         put_u32(out, at + 4 * i, row.number());
@@ -61,7 +61,7 @@ fn put_schedule_row(out: &mut [u8], at: usize, row: &ScheduleRow)
 pub(crate) fn put_schedule_rows(out: &mut [u8], at: usize, rows: &[ScheduleRow])
     requires { at + 20 * length rows.now ≤ length out.old }
     ensures holds { out.new ≡ written at (flat_map schedule_bytes rows.now) out.old }
-    ensures fits { All ScheduleFits rows.now }
+    ensures fits { AllByRecursion ScheduleFits rows.now }
 {
     for (i, row) in rows.iter().enumerate() {
         put_schedule_row(out, at + 20 * i, row);
@@ -83,7 +83,7 @@ fn put_withdrawal_row(out: &mut [u8], at: usize, row: &WithdrawalRow)
 pub(crate) fn put_withdrawal_rows(out: &mut [u8], at: usize, rows: &[WithdrawalRow])
     requires { at + 12 * length rows.now ≤ length out.old }
     ensures holds { out.new ≡ written at (flat_map withdrawal_bytes rows.now) out.old }
-    ensures fits { All WithdrawalFits rows.now }
+    ensures fits { AllByRecursion WithdrawalFits rows.now }
 {
     for (i, row) in rows.iter().enumerate() {
         put_withdrawal_row(out, at + 12 * i, row);
