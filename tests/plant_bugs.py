@@ -28,12 +28,13 @@ def bugs_of(crate):
 
 def check(copy, crate):
     """What rt says of the crate, and the first line that tells why it is not proved."""
-    done = subprocess.run(["rt", "dev", crate], cwd=copy, capture_output=True, text=True)
+    folder = os.path.join(copy, "crates", crate)
+    done = subprocess.run(["rt", "check"], cwd=folder, capture_output=True, text=True)
     lines = (done.stdout + done.stderr).splitlines()
     if any(line.startswith("logic=proved") for line in lines[-3:]):
         return "proved", ""
-    why = [line for line in lines if "error" in line or "no proof:" in line or line.startswith("note: /")]
-    reached = any("no proof" in line or "not proved" in line or "antt" in line for line in lines)
+    why = [line for line in lines if " error" in line or "no proof:" in line or ": not proved" in line]
+    reached = any(line.startswith("logic=not-proved") for line in lines)
     return ("refused" if reached else "did not reach the prover"), (why or lines[-1:] or [""])[0][:160]
 
 
@@ -57,7 +58,7 @@ def main():
     counts = {}
     with tempfile.TemporaryDirectory() as folder:
         copy = os.path.join(folder, "repository")
-        shutil.copytree(ROOT, copy, ignore=shutil.ignore_patterns(".git"))
+        shutil.copytree(ROOT, copy, ignore=shutil.ignore_patterns(".git", "out", "target"))
         for crate in crates:
             if check(copy, crate)[0] != "proved":
                 print(f"{crate} is not proved as it stands", file=sys.stderr)

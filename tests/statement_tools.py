@@ -9,7 +9,7 @@ SECOND = os.path.join(ROOT, "target", "second")
 SETTLE = os.path.join(SECOND, "settle")
 GENERATE = os.path.join(SECOND, "generate")
 # The program under test. STATEMENT names another, to try the checks themselves.
-PROGRAM = os.path.abspath(os.environ.get("STATEMENT") or os.path.join(ROOT, "target", "bin", "statement"))
+PROGRAM = os.path.abspath(os.environ.get("STATEMENT") or os.path.join(ROOT, "crates", "statement", "out", "statement"))
 
 
 class Failed(Exception):
@@ -23,7 +23,7 @@ def demand(holds, words):
 
 def prepare():
     """The program under test must be there. The second one is built, unless it is newer than its sources."""
-    demand(os.access(PROGRAM, os.X_OK), f"no program {PROGRAM}: build it with 'rt check statement', or set STATEMENT")
+    demand(os.access(PROGRAM, os.X_OK), f"no program {PROGRAM}: build it with './run', or set STATEMENT")
     sources = os.path.join(ROOT, "second")
     newest = max(os.path.getmtime(os.path.join(sources, name)) for name in os.listdir(sources))
     built = [SETTLE, GENERATE]
