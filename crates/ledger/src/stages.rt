@@ -12,8 +12,7 @@ pub mod in_cleared_hour;
 pub mod in_opened_hour;
 pub mod showing;
 
-/// A ledger between hours. It may be let go, unlike one with an hour in hand.
-#[derive(Drop)]
+/// A ledger between hours.
 pub struct Rest {
     /// Grains not yet charged to customers.
     carry: i64,

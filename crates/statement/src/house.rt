@@ -176,7 +176,9 @@ pub(crate) fn settle_feed<R: Read, W: Write>(
         output,
     );
     let reader = Reader::new(&buffer[window.start..window.end], window.offset);
-    let (_rest, lines) = finish(ledger, &mut suppliers, &reader, &mut out);
+    let (rest, lines) = finish(ledger, &mut suppliers, &reader, &mut out);
+    // A statement ends without a line of what is still carried.
+    let _carry = rest.into_carry();
     // A feed that has stopped has its line already.
     if stopped? || lines == LINES_ROOM {
         return Ok(());

@@ -1,4 +1,4 @@
--- Sums. Sums of natural numbers over a list are the library's `sumBy`.
+-- Sums. Sums of natural numbers over a list are the library's `sum_by`.
 use Rattle.std.specs.Prelude.{ℕ, zero, suc, Bool, cond, List, [], ◌∷◌, ℤ, pos, ◌+ℤ◌}
 
 -- the numbers below n

@@ -17,6 +17,14 @@ impl Rest {
     {
         self.last
     }
+
+    /// Lets the ledger go. Answers its carry, which is all that it still holds for anybody.
+    pub fn into_carry(self) -> i64
+        ensures { result ≡ self.carry }
+    {
+        let Rest { carry, last: _ } = self;
+        carry
+    }
 }
 
 impl Opened {
