@@ -36,7 +36,7 @@ pub record Stops (offset : ℕ) (f : Fault) (s : State) (p : Progress) (s' : Sta
   pub lines : drop outcome.lines out ≡ texts (Refused (told_of f).number offset ∷ [])
 
 -- a record that says e is settled; its lines end the buffer `out`
-pub record Goes_on (m : Market) (r : Rule) (curves : List (List CurveStep)) (offset : ℕ) (s : State) (e : Entry) (p : Progress) (s' : State) (out : List ℕ) : Type 0 where
+pub record GoesOn (m : Market) (r : Rule) (curves : List (List CurveStep)) (offset : ℕ) (s : State) (e : Entry) (p : Progress) (s' : State) (out : List ℕ) : Type 0 where
   pub outcome : Outcome
   pub settled : p ≡ Settled outcome
   pub step : Settles m r curves offset s e outcome.answer s' (drop outcome.lines out)
@@ -47,7 +47,7 @@ Advances m r curves offset ended s p s' out = Waits s p s'
 Advances m r curves offset truncated s p s' out = Waits s p s'
 Advances m r curves offset unknown_kind s p s' out = Stops offset (UnknownKind offset) s p s' out
 Advances m r curves offset size_not_allowed s p s' out = Stops offset (SizeNotAllowed offset) s p s' out
-Advances m r curves offset (whole e n) s p s' out = Goes_on m r curves offset s e p s' out
+Advances m r curves offset (whole e n) s p s' out = GoesOn m r curves offset s e p s' out
 
 -- the steps so far, the latest first, with the one that the front of the bytes asks for
 abbrev pub log_with : Market → Rule → List (List CurveStep) → Front → State → List Fed → List Fed
