@@ -1,14 +1,14 @@
 //! The calls that have no lists, made by functions: one that is made in place holds no reference that
 //! anything reads, and the borrow checker does not cover that.
 ghost use Rattle.std.specs.Prelude.{◌≡◌};
-ghost use Rattle.engine.specs.Asking.{enlisted};
+ghost use Rattle.engine.specs.Asking.{enrolment_of};
 ghost use Rattle.settlement.specs.declared.call.Call.TheVariants.{EnrolSupplier, EnrolCustomer, Open, Void};
 
 use accounts::NewSupplier;
 use settlement::Call;
 
 pub(crate) fn enrol_supplier<'a>(new: &feed::NewSupplier) -> Call<'a>
-    ensures { result ≡ EnrolSupplier (enlisted new.now) }
+    ensures { result ≡ EnrolSupplier (enrolment_of new.now) }
 {
     Call::EnrolSupplier(NewSupplier {
         number: new.number,
