@@ -23,7 +23,7 @@ logged m r curves s log [] = log
 logged m r curves s log (e ∷ es) =
     logged m r curves (leaves m r s (asks curves e) (verdict m r s (asks curves e))) (fed (asks curves e) (verdict m r s (asks curves e)) ∷ log) es
 
--- whatever bytes a feed has, the records read off its front lead a new ledger only where the law of all runs holds
+-- whatever bytes a feed has, the law of all runs holds wherever the records read off its front have led a new ledger
 abbrev pub FeedsKeep : Market → Rule → Type 0
 FeedsKeep m r = (curves : List (List CurveStep)) (supplier_room customer_room : ℕ) (bytes : List ℕ) (es : List Entry) (left : List ℕ) → Reads bytes es left
     → LawfulRun m r (logged m r curves (new supplier_room customer_room) [] es) (led_to m r curves (new supplier_room customer_room) es)

@@ -16,7 +16,7 @@ use settlement::Ledger;
 use std::io;
 use std::io::{Read, Write};
 
-/// An account that no row has yet.
+/// What fills a row that has no account yet.
 const NO_CUSTOMER: Customer = Customer {
     number: 0,
     cents: 0,
@@ -35,7 +35,7 @@ const NO_SUPPLIER: Supplier = Supplier {
 };
 
 /// How the bytes at hand were left: so many were settled, the next stands at this offset of the feed, and
-/// the feed may stop there.
+/// whether the feed has stopped there.
 #[derive(Clone, Copy)]
 struct Passed {
     bytes: usize,
