@@ -1,3 +1,4 @@
 pub mod Moves
 pub mod Outcome
 pub mod Posts
+pub mod ReadKinds

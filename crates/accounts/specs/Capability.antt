@@ -1,6 +1,6 @@
 -- What a supplier can be scheduled for.
 use Rattle.std.specs.Prelude.{ℕ, ◌+◌, ◌*◌, min, Bool, ◌&&◌, ◌||◌, ℤ, pos, ◌+ℤ◌, neg_ℤ, ◌==◌, int_le, nat_le}
-use Rattle.market.specs.declared.reserves.Reserves.{Reserves}
+use Rattle.market.specs.Products.{Reserves}
 use Rattle.accounts.specs.declared.supplier.Kind.{Kind}
 use Rattle.accounts.specs.declared.supplier.Kind.TheVariants.{Synchronized, NotSynchronized}
 use Rattle.accounts.specs.declared.supplier.Supplier.{Supplier}

@@ -8,6 +8,8 @@ use Rattle.accounts.specs.declared.supplier.Kind.{Kind}
 use Rattle.accounts.specs.declared.supplier.Kind.TheVariants.{Synchronized, NotSynchronized}
 use Rattle.accounts.specs.declared.supplier.Supplier.{Supplier}
 use Rattle.accounts.specs.declared.customer.Customer.{Customer}
+use Rattle.accounts.specs.declared.enrolment.Field.{Field}
+use Rattle.accounts.specs.declared.enrolment.Field.TheVariants.{Location, Kind as KindField, Upper, Response}
 
 -- the most tenths, or tenths per minute, of a supplier's limit, rate, energy or product
 abbrev pub most_tenths : ℕ
@@ -16,6 +18,13 @@ most_tenths = 30000
 -- kind 1 is synchronized, kind 2 is not
 abbrev pub kind_of_lem : ℕ → Kind
 kind_of_lem n = cond (n == 1) Synchronized NotSynchronized
+
+-- what is told of a field that is out of its range
+abbrev pub out_of_range : Field → Fault
+out_of_range Location = FieldOutOfRange 1
+out_of_range KindField = FieldOutOfRange 2
+out_of_range Upper = FieldOutOfRange 3
+out_of_range Response = FieldOutOfRange 4
 
 -- a supplier's location, kind, upper limit and response rate, in this order
 abbrev pub fields_verdict : ℕ → ℕ → ℕ → ℕ → ℕ → Verdict Fault

@@ -1,9 +1,10 @@
 -- Worked figures of the rules for one account.
 use Rattle.std.specs.Prelude.{◌≡◌, ℕ, true, false, [], ◌∷◌, pos, negsuc}
-use Rattle.market.specs.declared.reserves.Reserves.{Reserves}
+use Rattle.market.specs.Products.{Reserves}
 use Rattle.accounts.specs.declared.supplier.Supplier.{Supplier}
 use Rattle.accounts.specs.declared.schedule.ScheduleRow.{ScheduleRow}
 use Rattle.accounts.specs.declared.posting.Terms.{Terms}
+use Rattle.accounts.specs.declared.posting.Timing.TheVariants.{RealTime}
 use Rattle.accounts.specs.Capability.{able}
 use Rattle.accounts.specs.Enrolment.{new_supplier}
 use Rattle.accounts.specs.Posting.{with_hour_lem, settle}
@@ -17,7 +18,7 @@ row r = record { number = 7; energy = pos 0; regulation = 0; reserves = r }
 
 -- an interval of 300 seconds with spinning at 650 in location 0
 abbrev interval : Terms
-interval = record { prices = record { thirty = 0; ten = 0; spinning = 650 } ∷ []; seconds = 300; ahead = false }
+interval = record { prices = record { thirty = 0; ten = 0; spinning = 650 } ∷ []; seconds = 300; timing = RealTime }
 
 -- 120 tenths of spinning day ahead, and 100 in real time
 abbrev in_real_time : Supplier

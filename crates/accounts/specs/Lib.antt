@@ -1,6 +1,7 @@
 pub mod Capability
 pub mod Enrolment
 pub mod Figures
+pub mod Kinds
 pub mod Laws
 pub mod Limits
 pub mod Outcomes

@@ -6,19 +6,16 @@ use crate::schedule::ScheduleRow;
 use crate::supplier::{Kind, MOST_TENTHS, Supplier};
 use market::Reserves;
 
-/// The most tenths of energy in a row, either way.
-const MOST_ENERGY: i32 = MOST_TENTHS as i32;
-
 impl Supplier {
     /// Within ten minutes' response for spinning and twenty for thirty-minute reserve, and no ten-minute.
     fn able_synchronized(&self, reserves: &Reserves) -> bool
         ensures { result ≡ synchronized_able self.now.upper self.now.response reserves.now }
     {
-        let response = self.response as u64;
-        let upper = self.upper as u64;
+        let response = u64::from(self.response);
+        let upper = u64::from(self.upper);
         reserves.ten == 0
-            && reserves.spinning as u64 <= (10 * response).min(upper)
-            && reserves.thirty as u64 <= (20 * response).min(upper)
+            && u64::from(reserves.spinning) <= (10 * response).min(upper)
+            && u64::from(reserves.thirty) <= (20 * response).min(upper)
     }
 
     /// Within the upper limit for ten-minute or thirty-minute reserve, of which one is 0, and no spinning.
@@ -45,11 +42,11 @@ impl Supplier {
     fn able_in_sum(&self, row: &ScheduleRow) -> bool
         ensures { result ≡ sum_able self.now.upper row.now }
     {
-        let reserved = row.regulation as u64
-            + row.reserves.spinning as u64
-            + row.reserves.ten as u64
-            + row.reserves.thirty as u64;
-        row.energy as i64 + reserved as i64 <= self.upper as i64
+        let reserved = i64::from(row.regulation)
+            + i64::from(row.reserves.spinning)
+            + i64::from(row.reserves.ten)
+            + i64::from(row.reserves.thirty);
+        i64::from(row.energy) + reserved <= i64::from(self.upper)
     }
 
     /// Whether the supplier can do what the row asks for.
@@ -65,6 +62,6 @@ impl ScheduleRow {
     fn has_energy_in_range(&self) -> bool
         ensures { result ≡ energy_able self.now.energy }
     {
-        -MOST_ENERGY <= self.energy && self.energy <= MOST_ENERGY
+        self.energy.unsigned_abs() <= MOST_TENTHS
     }
 }

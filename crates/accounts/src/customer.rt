@@ -5,7 +5,7 @@ use crate::account::{Account, Numbered};
 use crate::withdrawal::WithdrawalRow;
 
 /// A load customer's account. Customers hold no grains.
-#[derive(Clone, Copy)]
+#[derive(Clone, Copy, PartialEq, Eq, Debug, Default)]
 pub struct Customer {
     pub number: u32,
     /// Cents charged over the closed hours.

@@ -1,6 +1,6 @@
 //! New accounts.
 ghost use Rattle.std.specs.Prelude.{◌≡◌};
-ghost use Rattle.accounts.specs.Enrolment.{kind_of_lem, fields_verdict, new_supplier, new_customer};
+ghost use Rattle.accounts.specs.Enrolment.{out_of_range, fields_verdict, new_supplier, new_customer};
 
 use crate::customer::Customer;
 use crate::supplier::{Kind, MOST_TENTHS, Supplier};
@@ -8,7 +8,7 @@ use faults::Fault;
 use market::Reserves;
 
 /// What is given to enrol a supplier, as it comes in.
-#[derive(Clone, Copy)]
+#[derive(Clone, Copy, PartialEq, Eq, Debug)]
 pub struct NewSupplier {
     pub number: u32,
     pub location: u16,
@@ -20,22 +20,42 @@ pub struct NewSupplier {
     pub response: u32,
 }
 
+/// The fields of a new supplier that have a range, with the numbers by which a refusal tells them.
+#[derive(Clone, Copy, PartialEq, Eq, Debug)]
+enum Field {
+    Location = 1,
+    Kind = 2,
+    Upper = 3,
+    Response = 4,
+}
+
+/// What is told of a field that is out of its range.
+impl From<Field> for Fault {
+    ghost from_gives = { λ field fault. fault ≡ out_of_range field };
+
+    fn from(field: Field) -> Fault {
+        Fault::FieldOutOfRange {
+            field: field as usize,
+        }
+    }
+}
+
 impl NewSupplier {
     /// Refuses the first field that is out of its range, where the map has so many locations.
     pub fn check_fields(&self, locations: usize) -> Result<(), Fault>
         ensures { result ≡ fields_verdict locations self.now.location self.now.kind self.now.upper self.now.response }
     {
-        if self.location as usize >= locations {
-            return Err(Fault::FieldOutOfRange { field: 1 });
+        if usize::from(self.location) >= locations {
+            return Err(Field::Location.into());
         }
-        if self.kind != 1 && self.kind != 2 {
-            return Err(Fault::FieldOutOfRange { field: 2 });
+        if Kind::try_from(self.kind).is_err() {
+            return Err(Field::Kind.into());
         }
         if self.upper > MOST_TENTHS {
-            return Err(Fault::FieldOutOfRange { field: 3 });
+            return Err(Field::Upper.into());
         }
         if self.response > MOST_TENTHS {
-            return Err(Fault::FieldOutOfRange { field: 4 });
+            return Err(Field::Response.into());
         }
         Ok(())
     }
@@ -47,7 +67,7 @@ impl NewSupplier {
         Supplier {
             number: self.number,
             location: self.location,
-            kind: kind_of(self.kind),
+            kind: Kind::try_from(self.kind).unwrap_or(Kind::NotSynchronized),
             upper: self.upper,
             response: self.response,
             cents: 0,
@@ -55,17 +75,6 @@ impl NewSupplier {
             hour: 0,
             ahead: Reserves::NONE,
         }
-    }
-}
-
-/// 1 is synchronized, all else is not.
-fn kind_of(kind: u16) -> Kind
-    ensures { result ≡ kind_of_lem kind }
-{
-    if kind == 1 {
-        Kind::Synchronized
-    } else {
-        Kind::NotSynchronized
     }
 }
 

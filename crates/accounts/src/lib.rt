@@ -15,15 +15,17 @@ mod posting;
 mod ranges;
 mod schedule;
 mod settling;
+mod sheet;
 mod supplier;
 mod withdrawal;
 
 pub use crate::account::{Account, Numbered};
 pub use crate::customer::Customer;
 pub use crate::enrolment::NewSupplier;
-pub use crate::posting::Terms;
+pub use crate::posting::{Terms, Timing};
 pub use crate::schedule::ScheduleRow;
-pub use crate::supplier::{Kind, Supplier};
+pub use crate::sheet::ScheduleSheet;
+pub use crate::supplier::{Kind, Supplier, UnknownKind};
 pub use crate::withdrawal::WithdrawalRow;
 
 /// Posting by a table of the market's prices is posting by its rules, for any map and prices.

@@ -4,24 +4,15 @@ ghost use Rattle.accounts.specs.Ranges.{most_amount, amount_fits_lem, reserves_f
 ghost use Rattle.accounts.specs.Outcomes.{provided};
 
 use crate::customer::Customer;
-use crate::supplier::{GRAINS_PER_CENT, MOST_TENTHS, Supplier};
+use crate::supplier::{MOST_TENTHS, Supplier};
 use market::Reserves;
+use sharing::GRAINS_PER_CENT;
 
 /// The furthest that cents, or the hour's grains, go from 0.
-const MOST_AMOUNT: i128 = 4_000_000_000_000_000_000;
-
-const NARROW_MOST_AMOUNT: i64 = MOST_AMOUNT as i64;
-
-/// Whether a number of 64 bits is in the range of cents and grains.
-pub(crate) fn in_range(number: i64) -> bool
-    ensures value { result ≡ amount_fits_lem number }
-    ensures bound { result ≡ true → unsigned_abs number ≤ most_amount }
-{
-    -NARROW_MOST_AMOUNT <= number && number <= NARROW_MOST_AMOUNT
-}
+const MOST_AMOUNT: i64 = 4_000_000_000_000_000_000;
 
 /// Whether a number is in the range of cents and grains.
-fn amount_fits(number: i128) -> bool
+fn amount_fits(number: i64) -> bool
     ensures value { result ≡ amount_fits_lem number }
     ensures bound { result ≡ true → unsigned_abs number ≤ most_amount }
 {
@@ -32,8 +23,9 @@ fn amount_fits(number: i128) -> bool
 pub(crate) fn added(amount: i64, more: i128) -> Option<i64>
     ensures { result ≡ provided (amount_fits_lem (amount +ℤ more)) (amount +ℤ more) }
 {
-    let sum = more.checked_add(amount as i128)?;
-    if amount_fits(sum) {
+    let sum = more.checked_add(i128::from(amount))?;
+    // Not by `then_some`: it would narrow the sum before the test.
+    if sum.unsigned_abs() <= MOST_AMOUNT as u128 {
         Some(sum as i64)
     } else {
         None
@@ -54,7 +46,7 @@ impl Supplier {
     fn hour_fits(&self) -> bool
         ensures { result ≡ hour_fits_lem self.now }
     {
-        self.held < GRAINS_PER_CENT && reserves_fit(&self.ahead)
+        i64::from(self.held) < GRAINS_PER_CENT && reserves_fit(&self.ahead)
     }
 
     /// The upper limit and the response rate are in range.
@@ -68,7 +60,7 @@ impl Supplier {
     fn amounts_fit(&self) -> bool
         ensures { result ≡ amounts_fit_lem self.now }
     {
-        in_range(self.cents) && in_range(self.hour)
+        amount_fits(self.cents) && amount_fits(self.hour)
     }
 
     /// Whether all that the account has is in its range. Any location and kind will do.
@@ -84,6 +76,6 @@ impl Customer {
     pub fn in_ranges(&self) -> bool
         ensures { result ≡ customer_fits self.now }
     {
-        in_range(self.cents)
+        amount_fits(self.cents)
     }
 }

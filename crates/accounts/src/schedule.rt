@@ -3,7 +3,7 @@ use crate::account::Numbered;
 use market::{Reserves, Scheduled};
 
 /// What one supplier is scheduled for, in tenths of a MW.
-#[derive(Clone, Copy)]
+#[derive(Clone, Copy, PartialEq, Eq, Debug, Default)]
 pub struct ScheduleRow {
     pub number: u32,
     pub energy: i32,

@@ -1,50 +1,20 @@
 //! The end of an hour: what closing and voiding do to an account.
-ghost use Rattle.std.specs.Prelude.{◌≡◌, ◌&&◌, pos, ◌+ℤ◌};
+ghost use Rattle.std.specs.Prelude.{◌≡◌, true, ◌&&◌, pos, ◌+ℤ◌};
 ghost use Rattle.accounts.specs.Ranges.{supplier_fits};
 ghost use Rattle.accounts.specs.Outcomes.{provided};
-ghost use Rattle.sharing.specs.Shares.{whole, rest as left_over};
 ghost use Rattle.accounts.specs.Posting.{with_hour_lem, settle, settles, forget, charge, chargeable};
 
 use crate::customer::Customer;
-use crate::ranges::added;
-use crate::supplier::{GRAINS_PER_CENT, Supplier};
+use crate::supplier::Supplier;
 use market::Reserves;
-
-/// Grains up to this, either way, are divided in 64 bits: all that accounts in their ranges have.
-const NARROW_GRAINS: i128 = 1 << 62;
-
-/// Whole cents of a number of grains, rounded toward minus infinity.
-fn whole_cents(grains: i128) -> i128
-    ensures { result ≡ whole grains }
-{
-    if -NARROW_GRAINS <= grains && grains <= NARROW_GRAINS {
-        (grains as i64).div_euclid(GRAINS_PER_CENT as i64) as i128
-    } else {
-        grains.div_euclid(GRAINS_PER_CENT as i128)
-    }
-}
-
-/// The grains that remain beside the whole cents.
-fn rest_grains(grains: i128) -> u32
-    ensures { result ≡ left_over grains }
-{
-    if -NARROW_GRAINS <= grains && grains <= NARROW_GRAINS {
-        (grains as i64).rem_euclid(GRAINS_PER_CENT as i64) as u32
-    } else {
-        grains.rem_euclid(GRAINS_PER_CENT as i128) as u32
-    }
-}
+use sharing::{rest_grains, whole_cents};
 
 impl Supplier {
     /// The account as it would be, if it is in its ranges and would stay there.
     pub(crate) fn moved_to(&self, next: Supplier) -> Option<Supplier>
         ensures { result ≡ provided (supplier_fits self.now && supplier_fits next) next }
     {
-        if self.in_ranges() && next.in_ranges() {
-            Some(next)
-        } else {
-            None
-        }
+        (self.in_ranges() && next.in_ranges()).then_some(next)
     }
 
     /// The account with other grains and another day-ahead schedule for the hour in hand.
@@ -58,11 +28,12 @@ impl Supplier {
         }
     }
 
-    /// All grains that are not paid yet.
-    fn unpaid(&self) -> i128
+    /// All grains that are not paid yet, where the account is in its ranges.
+    fn unpaid(&self) -> i64
+        requires { supplier_fits self.now ≡ true }
         ensures { result ≡ pos self.now.held +ℤ self.now.hour }
     {
-        self.held as i128 + self.hour as i128
+        i64::from(self.held) + self.hour
     }
 
     /// The account once the hour's grains are paid in whole cents, if it is in its ranges and stays
@@ -70,15 +41,17 @@ impl Supplier {
     pub fn settled(&self) -> Option<Supplier>
         ensures { result ≡ provided (settles self.now) (settle self.now) }
     {
+        if !self.in_ranges() {
+            return None;
+        }
         let unpaid = self.unpaid();
-        let cents = added(self.cents, whole_cents(unpaid))?;
-        let held = rest_grains(unpaid);
         let paid = Supplier {
-            cents,
-            held,
+            cents: self.cents.checked_add(whole_cents(unpaid))?,
+            held: rest_grains(unpaid),
             ..*self
         };
-        self.moved_to(paid.forgotten())
+        let settled = paid.forgotten();
+        settled.in_ranges().then_some(settled)
     }
 
     /// The account with the hour in hand forgotten.
@@ -94,8 +67,8 @@ impl Customer {
     pub fn charged(&self, share: i64) -> Option<Customer>
         ensures { result ≡ provided (chargeable self.now share) (charge self.now share) }
     {
-        let cents = added(self.cents, share as i128)?;
-        let next = Customer { cents, ..*self };
-        if self.in_ranges() { Some(next) } else { None }
+        let cents = self.cents.checked_add(share)?;
+        let charged = Customer { cents, ..*self };
+        (self.in_ranges() && charged.in_ranges()).then_some(charged)
     }
 }

@@ -1,4 +1,5 @@
 //! Suppliers of reserve.
+ghost use Rattle.accounts.specs.Kinds.{IsKindNumbered};
 ghost use Rattle.accounts.specs.Limits.{most_suppliers};
 
 use crate::account::{Account, Numbered};
@@ -8,18 +9,35 @@ use market::{Placed, Reserves, Scheduled};
 /// The most tenths, or tenths per minute, of a limit, a rate or a scheduled amount.
 pub(crate) const MOST_TENTHS: u32 = 30_000;
 
-/// One cent per MW and hour, times a tenth of a MW, times one second, is a grain.
-pub(crate) const GRAINS_PER_CENT: u32 = 36_000;
-
 /// Whether a supplier is synchronized to the grid, which decides what it can be scheduled for.
-#[derive(Clone, Copy)]
+#[derive(Clone, Copy, PartialEq, Eq, Debug, Default)]
 pub enum Kind {
     Synchronized,
+    #[default]
     NotSynchronized,
 }
 
+/// A number that stands for no kind: of a supplier here, of a record in a feed.
+#[derive(Clone, Copy, PartialEq, Eq, Debug)]
+pub struct UnknownKind<N>(pub N);
+
+/// Kinds by the numbers that stand for them where a supplier comes in.
+impl TryFrom<u16> for Kind {
+    type Error = UnknownKind<u16>;
+
+    ghost try_from_gives = { IsKindNumbered };
+
+    fn try_from(number: u16) -> Result<Kind, UnknownKind<u16>> {
+        match number {
+            1 => Ok(Kind::Synchronized),
+            2 => Ok(Kind::NotSynchronized),
+            _ => Err(UnknownKind(number)),
+        }
+    }
+}
+
 /// A supplier's account.
-#[derive(Clone, Copy)]
+#[derive(Clone, Copy, PartialEq, Eq, Debug, Default)]
 pub struct Supplier {
     pub number: u32,
     pub location: u16,
@@ -72,7 +90,7 @@ impl Placed for Supplier {
     ghost place = { λ a. a.location };
 
     fn location(&self) -> usize {
-        self.location as usize
+        usize::from(self.location)
     }
 }
 

@@ -6,7 +6,7 @@ use crate::account::Numbered;
 use sharing::Portion;
 
 /// What one customer withdrew in the hour, in tenths of a MWh.
-#[derive(Clone, Copy)]
+#[derive(Clone, Copy, PartialEq, Eq, Debug, Default)]
 pub struct WithdrawalRow {
     pub number: u32,
     pub gross: u32,
@@ -21,21 +21,21 @@ impl WithdrawalRow {
     fn exempt(&self) -> u64
         ensures { result ≡ self.now.station + self.now.exports }
     {
-        self.station as u64 + self.exports as u64
+        u64::from(self.station) + u64::from(self.exports)
     }
 
     /// Whether the gross withdrawal covers what is not charged.
     pub fn has_net(&self) -> bool
         ensures { result ≡ has_net_lem self.now }
     {
-        self.exempt() <= self.gross as u64
+        self.exempt() <= u64::from(self.gross)
     }
 
     /// The net withdrawal, 0 where there is none.
     pub fn net(&self) -> u64
         ensures { result ≡ net self.now }
     {
-        (self.gross as u64).saturating_sub(self.exempt())
+        u64::from(self.gross).saturating_sub(self.exempt())
     }
 }
 

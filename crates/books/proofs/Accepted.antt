@@ -7,7 +7,7 @@ use Rattle.sums.specs.Sums.{each}
 use Rattle.sums.specs.Verdict.{accept, want, scan, scan_one}
 use Rattle.sums.proofs.Verdicts.{both, wanted}
 use Rattle.sums.proofs.Walks.{scan_same}
-use Rattle.market.specs.declared.reserves.Reserves.{Reserves}
+use Rattle.market.specs.Products.{Reserves}
 use Rattle.accounts.specs.declared.supplier.Supplier.{Supplier}
 use Rattle.accounts.specs.declared.schedule.ScheduleRow.{ScheduleRow}
 use Rattle.accounts.specs.declared.customer.Customer.{Customer}

@@ -1,7 +1,7 @@
 -- The turns of a loop that changes accounts, by their rows or without.
-use Rattle.std.proofs.Common.{◌≡◌, ℕ, zero, suc, ◌+◌, ◌<◌, ◌≤◌, min, List, [], ◌∷◌, ◌++◌, map, length, get_or, take, drop, set, sym, refl, ap, ◌∙◌, append-nil, le_of_suc-le-suc, not-suc-le-zero, add-one, arith}
+use Rattle.std.proofs.Common.{◌≡◌, ℕ, zero, suc, ◌+◌, ◌<◌, ◌≤◌, min, List, [], ◌∷◌, ◌++◌, map, length, get_or, take, drop, set, sym, refl, ap, ◌∙◌, le_of_suc-le-suc, not-suc-le-zero, add-one, arith}
 use Rattle.std.proofs.lemmas.List.Edits.{map_over_more}
-use Rattle.std.proofs.lemmas.List.{take_all, at_drop_all}
+use Rattle.std.proofs.lemmas.List.{take_all}
 use Rattle.books.specs.Changes.{change_each}
 
 module _ {X Y : Type 0} (f : X → Y → X) where
@@ -42,10 +42,11 @@ module _ {X Y : Type 0} (f : X → Y → X) where
   changed_all (x ∷ xs) (y ∷ ys) zero h = absurd (omega arith)
   changed_all (x ∷ xs) (y ∷ ys) (suc i) h = ap (λ (zs : List X). f x y ∷ zs) (changed_all xs ys i (omega arith))
 
+  -- past the rows a turn changes nothing
+  pub changed_past : (xs : List X) (ys : List Y) (i : ℕ) → length ys ≤ i → change_each f xs (take i ys) ≡ change_each f xs (take (i + 1) ys)
+  changed_past xs ys i h = rw (take_all i ys h, take_all (i + 1) ys (omega arith))
+
 -- ---- without rows
 pub mapped_more : {X : Type 0} (f : X → X) (xs zs : List X) (i : ℕ) (x z : X) → i < length xs
     → zs ≡ map f (take i xs) ++ drop i xs → x ≡ get_or zs i x → z ≡ f (get_or zs i x) → set zs i z ≡ map f (take (i + 1) xs) ++ drop (i + 1) xs
 mapped_more f xs zs i x z h inv d q = ap (set zs i) (q ∙ ap f (sym d)) ∙ map_over_more f xs zs i x h inv d
-
-pub mapped_all : {X : Type 0} (f : X → X) (xs zs : List X) (i : ℕ) → length xs ≤ i → zs ≡ map f (take i xs) ++ drop i xs → zs ≡ map f xs
-mapped_all f xs zs i h inv = inv ∙ rw (take_all i xs h, at_drop_all (λ r. r) xs i h, append-nil)

@@ -1,3 +1,4 @@
 pub mod Accepted
 pub mod Changing
-pub mod Fronts
+pub mod Firsts
+pub mod Outcomes

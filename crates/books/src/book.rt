@@ -2,14 +2,16 @@
 ghost use Rattle.std.specs.Prelude.{◌≡◌, ◌<◌, ◌≤◌, min, [], ◌∷◌, ◌++◌, map, length};
 ghost use Rattle.books.specs.Books.{accounts, room, table};
 ghost use Rattle.books.specs.Changes.{change_each};
+ghost use Rattle.books.specs.Rules.{Answers, AnswersByRow};
 
-use crate::changes::{Change, RowChange, change_all, change_rows};
+use crate::changes::{change_all, change_rows};
 use accounts::Account;
 
 /// A table of accounts, with how many of its rows are enrolled.
 ///
 /// The count is limited by the kind and by the table wherever it is read, so that no book has more
 /// accounts than its kind may have.
+// The caller owns the memory, and nothing is allocated: a slice with a count.
 #[derive(Drop)]
 pub struct Book<'a, A: Account> {
     rows: &'a mut [A],
@@ -51,6 +53,8 @@ impl<'a, A: Account> Book<'a, A> {
         &self.rows[0..count]
     }
 
+    // An invariant cannot compare a book with what it was: each write says that room and table stay.
+
     /// One more account, at the end.
     pub(crate) fn push(&mut self, account: A)
         requires { length (accounts A.Account.most self.old) < min A.Account.most (room self.old) }
@@ -64,24 +68,26 @@ impl<'a, A: Account> Book<'a, A> {
     }
 
     /// Changes every account.
-    pub(crate) fn change<C: Change<A>>(&mut self, change: &C)
-        ensures after { accounts A.Account.most self.new ≡ map (C.Change.changed change.now) (accounts A.Account.most self.old) }
+    pub(crate) fn change<C: Fn(&A) -> A>(&mut self, change: C)
+        requires { C.IsAlwaysCallable change }
+        ensures after { (becomes : A → A) → Answers C.Fn change becomes → accounts A.Account.most self.new ≡ map becomes (accounts A.Account.most self.old) }
         ensures room { room self.new ≡ room self.old }
         ensures table { table self.new ≡ table self.old }
     {
         let count = self.count();
-        change_all(change, &mut self.rows[0..count]);
+        change_all(&mut self.rows[0..count], change);
         self.count = count;
     }
 
     /// Changes every account that has a row.
-    pub(crate) fn change_by<Y, C: RowChange<A, Y>>(&mut self, change: &C, rows: &[Y])
-        ensures after { accounts A.Account.most self.new ≡ change_each (C.RowChange.changed change.now) (accounts A.Account.most self.old) rows.now }
+    pub(crate) fn change_by<Y, C: Fn(&A, &Y) -> A>(&mut self, rows: &[Y], change: C)
+        requires { C.IsAlwaysCallable change }
+        ensures after { (becomes : A → Y → A) → AnswersByRow C.Fn change becomes → accounts A.Account.most self.new ≡ change_each becomes (accounts A.Account.most self.old) rows.now }
         ensures room { room self.new ≡ room self.old }
         ensures table { table self.new ≡ table self.old }
     {
         let count = self.count();
-        change_rows(change, &mut self.rows[0..count], rows);
+        change_rows(&mut self.rows[0..count], rows, change);
         self.count = count;
     }
 }

@@ -7,45 +7,20 @@ ghost use Rattle.books.specs.Books.{customers, room, table};
 ghost use Rattle.books.specs.Changes.{change_each, charged_or};
 
 use crate::book::Book;
-use crate::changes::RowChange;
-use crate::rules::{RowRule, check_rows};
+use crate::rules::check_rows;
 use accounts::Customer;
 use faults::Fault;
-
-/// Each customer is charged its share.
-struct Charging;
-
-impl RowRule<Customer, i64> for Charging {
-    ghost keeps = { λ _ c share. chargeable c share };
-
-    ghost breach = { λ _ row. AccountRange row };
-
-    fn keeps(&self, account: &Customer, row: &i64) -> bool {
-        account.charged(*row).is_some()
-    }
-
-    fn breach(&self, row: usize) -> Fault {
-        Fault::AccountRange { row }
-    }
-}
-
-/// A customer that is charged, or as it is where it would leave its ranges.
-impl RowChange<Customer, i64> for Charging {
-    ghost changed = { λ _ c share. charged_or c share };
-
-    fn changed(&self, account: &Customer, row: &i64) -> Customer {
-        match account.charged(*row) {
-            Some(next) => next,
-            None => *account,
-        }
-    }
-}
 
 /// Refuses the first customer that is past its ranges, or would be with its share charged.
 pub fn check_charge(accounts: &[Customer], shares: &[i64]) -> Result<(), Fault>
     ensures { result ≡ scan chargeable AccountRange 0 accounts.now shares.now }
 {
-    check_rows(&Charging, accounts, shares)
+    check_rows(
+        accounts,
+        shares,
+        |account, share| account.charged(*share).is_some(),
+        |row| Fault::AccountRange { row },
+    )
 }
 
 impl<'a> Book<'a, Customer> {
@@ -55,6 +30,9 @@ impl<'a> Book<'a, Customer> {
         ensures room { room self.new ≡ room self.old }
         ensures table { table self.new ≡ table self.old }
     {
-        self.change_by(&Charging, shares)
+        self.change_by(
+            shares,
+            |account, share| account.charged(*share).unwrap_or(*account),
+        )
     }
 }

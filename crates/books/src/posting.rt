@@ -8,43 +8,20 @@ ghost use Rattle.books.specs.Books.{suppliers, room, table};
 ghost use Rattle.books.specs.Changes.{change_each, posted_or};
 
 use crate::book::Book;
-use crate::changes::RowChange;
-use crate::rules::{RowRule, check_rows};
+use crate::rules::check_rows;
 use accounts::{ScheduleRow, Supplier, Terms};
 use faults::Fault;
-
-/// Each supplier is in its ranges, and stays there with its row posted.
-impl RowRule<Supplier, ScheduleRow> for Terms {
-    ghost keeps = { λ t a w. stays (post_by t) a w };
-
-    ghost breach = { λ _ row. AccountRange row };
-
-    fn keeps(&self, account: &Supplier, row: &ScheduleRow) -> bool {
-        account.posted(self, row.reserves).is_some()
-    }
-
-    fn breach(&self, row: usize) -> Fault {
-        Fault::AccountRange { row }
-    }
-}
-
-/// A supplier with its row posted, or as it is where it would leave its ranges.
-impl RowChange<Supplier, ScheduleRow> for Terms {
-    ghost changed = { λ t a w. posted_or t a w };
-
-    fn changed(&self, account: &Supplier, row: &ScheduleRow) -> Supplier {
-        match account.posted(self, row.reserves) {
-            Some(next) => next,
-            None => *account,
-        }
-    }
-}
 
 /// Refuses the first supplier that is past its ranges, or would be with its row posted.
 pub fn check_post(accounts: &[Supplier], rows: &[ScheduleRow], terms: &Terms) -> Result<(), Fault>
     ensures { result ≡ scan (stays (post_by terms.now)) AccountRange 0 accounts.now rows.now }
 {
-    check_rows(terms, accounts, rows)
+    check_rows(
+        accounts,
+        rows,
+        |account, row| account.posted(terms, row.reserves).is_some(),
+        |row| Fault::AccountRange { row },
+    )
 }
 
 impl<'a> Book<'a, Supplier> {
@@ -54,6 +31,9 @@ impl<'a> Book<'a, Supplier> {
         ensures room { room self.new ≡ room self.old }
         ensures table { table self.new ≡ table self.old }
     {
-        self.change_by(terms, rows)
+        self.change_by(
+            rows,
+            |account, row| account.posted(terms, row.reserves).unwrap_or(*account),
+        )
     }
 }

@@ -2,60 +2,41 @@
 ghost use Rattle.std.specs.Prelude.{◌≡◌, ℕ, Bool};
 ghost use Rattle.faults.specs.declared.fault.Fault.{Fault};
 ghost use Rattle.sums.specs.Verdict.{scan, scan_one};
+ghost use Rattle.books.specs.Rules.{Answers, AnswersByRow, Faults};
 
 use faults::Fault;
 
-/// A rule for one account, or one row, and the fault of a place where it is broken.
-pub(crate) trait Rule<X> {
-    ghost keeps: { Self → X → Bool };
-
-    ghost breach: { Self → ℕ → Fault };
-
-    fn keeps(&self, item: &X) -> bool
-        ensures { result ≡ keeps self.now item.now };
-
-    fn breach(&self, place: usize) -> Fault
-        ensures { result ≡ breach self.now place };
-}
-
-/// A rule for an account and its row, and the fault of a row where it is broken.
-pub(crate) trait RowRule<X, Y> {
-    ghost keeps: { Self → X → Y → Bool };
-
-    ghost breach: { Self → ℕ → Fault };
-
-    fn keeps(&self, account: &X, row: &Y) -> bool
-        ensures { result ≡ keeps self.now account.now row.now };
-
-    fn breach(&self, row: usize) -> Fault
-        ensures { result ≡ breach self.now row };
-}
-
-/// Refuses the first that breaks the rule.
-pub(crate) fn check_all<X, R: Rule<X>>(rule: &R, items: &[X]) -> Result<(), Fault>
-    ensures { result ≡ scan_one (R.Rule.keeps rule.now) (R.Rule.breach rule.now) 0 items.now }
+/// Refuses the first item that breaks the rule, with the fault of its place.
+pub(crate) fn check_all<X, K: Fn(&X) -> bool, E: Fn(usize) -> Fault>(
+    items: &[X],
+    keeps: K,
+    fault: E,
+) -> Result<(), Fault>
+    requires keeps { K.IsAlwaysCallable keeps }
+    requires fault { E.IsAlwaysCallable fault }
+    ensures { (rule : X → Bool) (of : ℕ → Fault) → Answers K.Fn keeps rule → Faults E.Fn fault of → result ≡ scan_one rule of 0 items.now }
 {
-    for i in 0..items.len() {
-        if !rule.keeps(&items[i]) {
-            return Err(rule.breach(i));
-        }
-    }
-    Ok(())
+    items
+        .iter()
+        .position(|item| !keeps(item))
+        .map_or(Ok(()), |place| Err(fault(place)))
 }
 
 /// Refuses the first row that breaks the rule, as far as the shorter list goes.
-pub(crate) fn check_rows<X, Y, R: RowRule<X, Y>>(
-    rule: &R,
+// Not one with `check_all`: over pairs both would be longer, as another definition is promised of two lists than of one.
+pub(crate) fn check_rows<X, Y, K: Fn(&X, &Y) -> bool, E: Fn(usize) -> Fault>(
     accounts: &[X],
     rows: &[Y],
+    keeps: K,
+    fault: E,
 ) -> Result<(), Fault>
-    ensures { result ≡ scan (R.RowRule.keeps rule.now) (R.RowRule.breach rule.now) 0 accounts.now rows.now }
+    requires keeps { K.IsAlwaysCallable keeps }
+    requires fault { E.IsAlwaysCallable fault }
+    ensures { (rule : X → Y → Bool) (of : ℕ → Fault) → AnswersByRow K.Fn keeps rule → Faults E.Fn fault of → result ≡ scan rule of 0 accounts.now rows.now }
 {
-    let count = accounts.len().min(rows.len());
-    for i in 0..count {
-        if !rule.keeps(&accounts[i], &rows[i]) {
-            return Err(rule.breach(i));
-        }
-    }
-    Ok(())
+    accounts
+        .iter()
+        .zip(rows)
+        .position(|(account, row)| !keeps(account, row))
+        .map_or(Ok(()), |row| Err(fault(row)))
 }

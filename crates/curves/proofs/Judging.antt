@@ -1,6 +1,6 @@
 -- What accepted steps are like.
-use Rattle.std.proofs.Common.{◌≡◌, ℕ, zero, suc, ◌+◌, ◌<◌, ◌≤◌, true, ◌&&◌, ltb, List, [], ◌∷◌, length, get_or, take, refl, inl, inr, add-one, arith}
-use Rattle.std.proofs.lemmas.List.{take_all, get_or-take, length-take-le}
+use Rattle.std.proofs.Common.{◌≡◌, ℕ, zero, suc, ◌+◌, ◌<◌, ◌≤◌, true, ◌&&◌, ltb, List, [], ◌∷◌, length, get_or, take, ◌++◌, refl, inl, inr, add-one, arith}
+use Rattle.std.proofs.lemmas.List.{take_all, take_more, get_or-take, length-take-le}
 use Rattle.std.proofs.lemmas.Bool.{cases_lt}
 use Rattle.std.proofs.lemmas.Bool.Decides.{nat_tests}
 use Rattle.faults.specs.declared.fault.Fault.{Fault}
@@ -14,6 +14,19 @@ falls_next : (ss : List Step) (i : ℕ)
     → falls ss (i + 1)
     ≡ (ltb (get_or ss (i + 1) no_step).margin (get_or ss i no_step).margin && ltb (get_or ss (i + 1) no_step).price (get_or ss i no_step).price)
 falls_next ss i = rw add-one
+
+falls_front : (ss : List Step) (i : ℕ) → falls (take (i + 1) ss) i ≡ falls ss i
+falls_front ss zero = refl
+falls_front ss (suc i) =
+    let a : get_or (take (suc i + 1) ss) (suc i) no_step ≡ get_or ss (suc i) no_step = get_or-take (suc i + 1) ss (suc i) no_step (omega arith) in
+    let b : get_or (take (suc i + 1) ss) i no_step ≡ get_or ss i no_step = get_or-take (suc i + 1) ss i no_step (omega arith) in
+    rw (a, b)
+
+-- what stands behind a step is not looked at
+pub falls_taken : (ss : List Step) (i : ℕ) → i < length ss → falls (take i ss ++ get_or ss i no_step ∷ []) (length (take i ss)) ≡ falls ss i
+falls_taken ss i l =
+    let n : length (take i ss) ≡ i = length-take-le i ss (omega arith) in
+    rw (n, ← take_more ss i no_step l) (falls_front ss i)
 
 few_of : (ss : List Step) → ((i : ℕ) → i < length ss → step_ok ss i ≡ true) → length ss ≤ most_steps
 few_of [] h = omega arith

@@ -1,4 +1,2 @@
 pub mod Judging
 pub mod Values
-pub mod Copies
-pub mod Books

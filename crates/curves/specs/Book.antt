@@ -1,5 +1,5 @@
 -- What a curve and a curve book hold.
-use Rattle.std.specs.Prelude.{ℕ, ◌&&◌, List, [], map, take, nat_le, slice_index_or}
+use Rattle.std.specs.Prelude.{ℕ, ◌&&◌, List, [], map, nat_le, slice_index_or}
 use Rattle.faults.specs.declared.fault.Fault.{Fault}
 use Rattle.faults.specs.declared.fault.Fault.TheVariants.{CurveSteps}
 use Rattle.sums.specs.Verdict.{Verdict, want}
@@ -10,11 +10,11 @@ use Rattle.curves.specs.Steps.{most_curves}
 
 -- the steps of a curve
 abbrev pub steps_of : Curve → List Step
-steps_of c = take c.count c.steps
+steps_of c = c.steps.items
 
 -- the steps of each curve of a book, by the number of the requirement
 abbrev pub curves_of : CurveBook → List (List Step)
-curves_of b = map steps_of (take b.count b.curves)
+curves_of b = map steps_of b.curves.items
 
 -- the steps of curve k, none past the last curve
 abbrev pub steps_at_lem : List (List Step) → ℕ → List Step

@@ -1,5 +1,5 @@
 -- What a reader answers decides what is done; and the law after it.
-use Rattle.std.proofs.Common.{◌≡◌, ℕ, List, [], ◌∷◌, drop, Some, None, Ok, Err, Option, sym, refl, ap, ◌∙◌, subst, append-nil, arith}
+use Rattle.std.proofs.Common.{◌≡◌, ℕ, Bool, true, false, List, [], ◌∷◌, drop, Some, None, Ok, Err, Option, sym, refl, ap, ◌∙◌, subst, append-nil, arith}
 use Rattle.faults.specs.declared.fault.Fault.{Fault}
 use Rattle.faults.specs.declared.fault.Fault.TheVariants.{Truncated, UnknownKind, SizeNotAllowed}
 use Rattle.faults.specs.Told.{told_of}
@@ -25,6 +25,11 @@ use Rattle.engine.specs.Asking.{asks}
 use Rattle.engine.specs.Telling.{fault_at, Settles}
 use Rattle.engine.specs.Advancing.{Stops, Advances, log_with, LawfulRun, end_lines}
 
+-- the refusal of a feed that ends inside a record
+abbrev pub is_truncated : Fault → Bool
+is_truncated (Truncated _) = true
+is_truncated f = false
+
 module _ (m : Market) (r : Rule) (curves : List (List CurveStep)) (offset : ℕ) (s : State) (out : List ℕ) where
   pub waits_at_end : (f : Front) → Ok None ≡ answer offset f → Advances m r curves offset f s Waiting s out
   waits_at_end ended e = record { waiting = refl; left = refl }
@@ -33,18 +38,12 @@ module _ (m : Market) (r : Rule) (curves : List (List CurveStep)) (offset : ℕ)
   waits_at_end size_not_allowed e = let z : ◌≡◌ {A = ℕ} 0 1 = cc in absurd (omega arith)
   waits_at_end (whole x n) e = let z : ◌≡◌ {A = ℕ} 0 1 = cc in absurd (omega arith)
 
-  pub waits_inside : (f : Front) (fault : Fault) → Err fault ≡ answer offset f → (told_of fault).number ≡ 1 → Advances m r curves offset f s Waiting s out
-  waits_inside ended fault e one = record { waiting = refl; left = refl }
-  waits_inside truncated fault e one = record { waiting = refl; left = refl }
-  waits_inside unknown_kind fault e one =
-      let same : fault ≡ UnknownKind offset = cc in
-      let two : (told_of fault).number ≡ 2 = ap (λ x. (told_of x).number) same in
-      absurd (omega arith)
-  waits_inside size_not_allowed fault e one =
-      let same : fault ≡ SizeNotAllowed offset = cc in
-      let three : (told_of fault).number ≡ 3 = ap (λ x. (told_of x).number) same in
-      absurd (omega arith)
-  waits_inside (whole x n) fault e one = let z : ◌≡◌ {A = ℕ} 0 1 = cc in absurd (omega arith)
+  pub waits_inside : (f : Front) (at : ℕ) → Err (Truncated at) ≡ answer offset f → Advances m r curves offset f s Waiting s out
+  waits_inside ended at e = record { waiting = refl; left = refl }
+  waits_inside truncated at e = record { waiting = refl; left = refl }
+  waits_inside unknown_kind at e = let z : ◌≡◌ {A = ℕ} 0 1 = cc in absurd (omega arith)
+  waits_inside size_not_allowed at e = let z : ◌≡◌ {A = ℕ} 0 1 = cc in absurd (omega arith)
+  waits_inside (whole x n) at e = let z : ◌≡◌ {A = ℕ} 0 1 = cc in absurd (omega arith)
 
   pub goes_on : (f : Front) (x : Entry) (outcome : Outcome) (s' : State) → Ok (Some x) ≡ answer offset f
       → Settles m r curves offset s x outcome.answer s' (drop outcome.lines out) → Advances m r curves offset f s (Settled outcome) s' out
@@ -69,12 +68,12 @@ module _ (m : Market) (r : Rule) (curves : List (List CurveStep)) (offset : ℕ)
         lines = line ∙ ap (λ x. text (Refused (told_of x).number offset)) same ∙ sym (append-nil (text (Refused (told_of f).number offset)));
       }
 
-  pub stops : (f : Front) (fault : Fault) (outcome : Outcome) → Err fault ≡ answer offset f → ((told_of fault).number ≡ 1 → ⊥)
+  pub stops : (f : Front) (fault : Fault) (outcome : Outcome) → Err fault ≡ answer offset f → is_truncated fault ≡ false
       → outcome.answer ≡ Err (fault_at offset fault)
       → drop outcome.lines out ≡ text (Refused (told_of (fault_at offset fault)).number offset)
       → Advances m r curves offset f s (Stopped outcome) s out
   stops ended fault outcome e other told line = let z : ◌≡◌ {A = ℕ} 0 1 = cc in absurd (omega arith)
-  stops truncated fault outcome e other told line = let same : fault ≡ Truncated offset = cc in absurd (other (ap (λ x. (told_of x).number) same))
+  stops truncated fault outcome e other told line = let z : ◌≡◌ {A = ℕ} 0 1 = cc in absurd (omega arith)
   stops unknown_kind fault outcome e other told line = let same : fault ≡ UnknownKind offset = cc in stops_by fault (UnknownKind offset) outcome same refl told line
   stops size_not_allowed fault outcome e other told line = let same : fault ≡ SizeNotAllowed offset = cc in stops_by fault (SizeNotAllowed offset) outcome same refl told line
   stops (whole x n) fault outcome e other told line = let z : ◌≡◌ {A = ℕ} 0 1 = cc in absurd (omega arith)
@@ -85,7 +84,7 @@ module _ (m : Market) (r : Rule) (curves : List (List CurveStep)) (offset : ℕ)
   settled_at f x outcome s' at same e step =
       goes_on f x outcome s' e (subst (λ o. Settles m r curves o s x outcome.answer s' (drop outcome.lines out)) same step)
 
-  pub stopped_at : (f : Front) (fault : Fault) (outcome : Outcome) (at : ℕ) → at ≡ offset → Err fault ≡ answer offset f → ((told_of fault).number ≡ 1 → ⊥)
+  pub stopped_at : (f : Front) (fault : Fault) (outcome : Outcome) (at : ℕ) → at ≡ offset → Err fault ≡ answer offset f → is_truncated fault ≡ false
       → outcome.answer ≡ Err (fault_at at fault)
       → drop outcome.lines out ≡ text (Refused (told_of (fault_at at fault)).number at)
       → Advances m r curves offset f s (Stopped outcome) s out

@@ -1,14 +1,8 @@
 -- The call that a record asks for.
 use Rattle.std.specs.Prelude.{List}
 use Rattle.curves.specs.declared.step.Step.{Step}
-use Rattle.accounts.specs.declared.enrolment.NewSupplier.{NewSupplier as Enrolment}
 use Rattle.law.specs.Ledger.{Args, enrol_supplier, enrol_customer, open_hour, clear, interval, close, void}
-use Rattle.feed.specs.declared.record.NewSupplier.{NewSupplier}
 use Rattle.feed.specs.Entries.{Entry, supplier, customer, opening, clearing, interval as interval_entry, closing, voiding}
-
--- a supplier as the feed gives it, as it is to be enrolled
-abbrev pub enrolment_of : NewSupplier → Enrolment
-enrolment_of new = record { number = new.number; location = new.location; kind = new.kind; upper = new.upper; response = new.response }
 
 -- a clearing and an interval take the curves of the curve book
 abbrev pub asks : List (List Step) → Entry → Args

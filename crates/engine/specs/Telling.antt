@@ -1,9 +1,9 @@
 -- What is told of a record that a feed has at an offset: the answer, and the lines of the statement.
-use Rattle.std.specs.Prelude.{◌≡◌, ℕ, cond, List, [], ◌∷◌, map, ℤ, Ok, Err, ◌==◌}
+use Rattle.std.specs.Prelude.{◌≡◌, ℕ, cond, List, [], ◌∷◌, map, ℤ, Ok, Err, ◌==◌, Option, Some, None}
 use Rattle.faults.specs.declared.fault.Fault.{Fault}
 use Rattle.faults.specs.declared.fault.Fault.TheVariants.{WrongStage}
 use Rattle.faults.specs.Told.{told_of}
-use Rattle.sums.specs.Verdict.{Verdict}
+use Rattle.sums.specs.Verdict.{Verdict, accept}
 use Rattle.maps.specs.Market.{Market}
 use Rattle.curves.specs.declared.step.Step.{Step as CurveStep}
 use Rattle.sharing.specs.Rule.{Rule}
@@ -18,6 +18,7 @@ use Rattle.lines.specs.declared.line.Line.{Line}
 use Rattle.lines.specs.declared.line.Line.TheVariants.{Refused}
 use Rattle.lines.specs.Texts.{texts}
 use Rattle.lines.specs.Closings.{closing_lines}
+use Rattle.engine.specs.declared.noting.Noted.{Noted}
 use Rattle.engine.specs.Asking.{asks}
 
 -- a ledger knows no feed: the refusal of a record at the wrong stage [4] gets the record's offset here
@@ -43,6 +44,15 @@ lines_of offset s a (Ok u) s' =
     cond (is_close a)
     (closing_lines s.hour (supplier_cents s.suppliers) s'.suppliers (customer_cents s.customers) s'.customers s'.carry)
     []
+
+-- the lines of an accepted call that left s', by what was noted before it
+abbrev pub noted_lines : Option Noted → State → List Line
+noted_lines None s' = []
+noted_lines (Some n) s' = closing_lines n.hour n.paid.items s'.suppliers n.charged.items s'.customers s'.carry
+
+-- if a call that finds the state s is accepted, what was noted before it gives its lines
+abbrev pub Foretold : State → Args → Option Noted → Type 0
+Foretold s a noted = (m : Market) (r : Rule) (s' : State) → verdict m r s a ≡ accept → noted_lines noted s' ≡ lines_of 0 s a accept s'
 
 -- a record at an offset that says e was settled, with the answer v and the bytes of its lines
 pub record Settles (m : Market) (r : Rule) (curves : List (List CurveStep)) (offset : ℕ) (s : State) (e : Entry) (v : Verdict Fault) (s' : State) (bytes : List ℕ) : Type 0 where

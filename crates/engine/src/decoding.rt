@@ -1,163 +1,98 @@
 //! A record as a step of the ledger.
-ghost use Rattle.books.specs.Books.{suppliers as enlisted, customers as customed, room};
+ghost use Rattle.std.specs.Prelude.{◌≡◌, ◌≤◌, length, replicate};
 ghost use Rattle.curves.specs.Book.{curves_of};
-ghost use Rattle.feed.specs.Entries.{SheetSized, Sized, clearing, interval as interval_entry, closing};
-ghost use Rattle.feed.specs.Reading.{says, sheet_of, withdrawals_of};
+ghost use Rattle.feed.specs.Entries.{Sized, SheetSized};
+ghost use Rattle.feed.specs.Reading.{says, rows_of, sheet_of};
 ghost use Rattle.law.specs.Run.{Step};
-ghost use Rattle.settlement.specs.Course.{state};
+ghost use Rattle.settlement.specs.Course.{state_of, SameRules};
 ghost use Rattle.engine.specs.Asking.{asks};
 
-use crate::calls::{enrol_customer, enrol_supplier, open, void};
-use accounts::{Customer, ScheduleRow, Supplier, WithdrawalRow};
-use books::Book;
-use curves::CurveBook;
+use accounts::{ScheduleRow, ScheduleSheet, WithdrawalRow};
 use faults::Fault;
-use feed::{Record, Sheet, WithdrawalRows};
+use feed::{Record, Row, Rows, Sheet};
 use maps::LocationMap;
-use market::Reserves;
-use settlement::{Call, Ledger, step};
+use settlement::{Call, House, Ledger, step};
 use sharing::SharingRule;
 
-const NO_SCHEDULE: ScheduleRow = ScheduleRow {
-    number: 0,
-    energy: 0,
-    regulation: 0,
-    reserves: Reserves::NONE,
-};
-
-const NO_WITHDRAWAL: WithdrawalRow = WithdrawalRow {
-    number: 0,
-    gross: 0,
-    station: 0,
-    exports: 0,
-};
-
-/// Clears the hour by a sheet of the feed.
-fn clear<M: LocationMap, S: SharingRule>(
-    ledger: Ledger,
-    map: &M,
-    suppliers: &mut Book<'_, Supplier>,
-    customers: &mut Book<'_, Customer>,
-    curves: &CurveBook,
-    sheet: &Sheet<'_>,
-) -> (Ledger, Result<(), Fault>)
-    requires { SheetSized (sheet_of sheet.now) }
-    ensures { Step (M.LocationMap.market map.now) S.SharingRule.share
-        (state ledger (enlisted suppliers.old) (customed customers.old) (room suppliers.old) (room customers.old))
-        (asks (curves_of curves.now) (clearing (sheet_of sheet.now)))
-        result.1
-        (state result.0 (enlisted suppliers.new) (customed customers.new) (room suppliers.new) (room customers.new)) }
+/// The rows of a list of the feed, decoded to the front of the room.
+fn decode<'b, R: Row>(rows: &Rows<'_, R>, room: &'b mut [R]) -> &'b [R]
+    requires { length (rows_of R.WIDTH R.row_at rows.now) ≤ length room.old }
+    ensures { result.now ≡ rows_of R.WIDTH R.row_at rows.now }
 {
-    let mut prices = [0; 32];
-    let mut targets = [0; 32];
-    let mut rows = [NO_SCHEDULE; 128];
-    let n = sheet.prices.fill(&mut prices);
-    let k = sheet.targets.fill(&mut targets);
-    let m = sheet.rows.fill(&mut rows);
-    let call = Call::Clear(&prices[0..n], &targets[0..k], &rows[0..m]);
-    step::<M, S>(ledger, map, suppliers, customers, curves, call)
+    let count = rows.fill(room);
+    &room[..count]
 }
 
-/// Settles an interval by a sheet of the feed.
-fn settle_interval<M: LocationMap, S: SharingRule>(
-    ledger: Ledger,
-    map: &M,
-    suppliers: &mut Book<'_, Supplier>,
-    customers: &mut Book<'_, Customer>,
-    curves: &CurveBook,
-    seconds: u32,
-    sheet: &Sheet<'_>,
-) -> (Ledger, Result<(), Fault>)
-    requires { SheetSized (sheet_of sheet.now) }
-    ensures { Step (M.LocationMap.market map.now) S.SharingRule.share
-        (state ledger (enlisted suppliers.old) (customed customers.old) (room suppliers.old) (room customers.old))
-        (asks (curves_of curves.now) (interval_entry seconds (sheet_of sheet.now)))
-        result.1
-        (state result.0 (enlisted suppliers.new) (customed customers.new) (room suppliers.new) (room customers.new)) }
-{
-    let mut prices = [0; 32];
-    let mut targets = [0; 32];
-    let mut rows = [NO_SCHEDULE; 128];
-    let n = sheet.prices.fill(&mut prices);
-    let k = sheet.targets.fill(&mut targets);
-    let m = sheet.rows.fill(&mut rows);
-    let call = Call::Interval(seconds, &prices[0..n], &targets[0..k], &rows[0..m]);
-    step::<M, S>(ledger, map, suppliers, customers, curves, call)
+/// Room for the lists of a sheet, as long as a record may have them. Nothing is allocated; what is decoded is a slice of it.
+#[derive(Drop)]
+struct SheetRoom {
+    prices: [u32; 32],
+    targets: [u32; 32],
+    rows: [ScheduleRow; 128],
 }
 
-/// Closes the hour by a sheet of the feed.
-fn close<M: LocationMap, S: SharingRule>(
-    ledger: Ledger,
-    map: &M,
-    suppliers: &mut Book<'_, Supplier>,
-    customers: &mut Book<'_, Customer>,
-    curves: &CurveBook,
-    sheet: &WithdrawalRows<'_>,
-) -> (Ledger, Result<(), Fault>)
-    requires { Sized (closing (withdrawals_of sheet.now)) }
-    ensures { Step (M.LocationMap.market map.now) S.SharingRule.share
-        (state ledger (enlisted suppliers.old) (customed customers.old) (room suppliers.old) (room customers.old))
-        (asks (curves_of curves.now) (closing (withdrawals_of sheet.now)))
-        result.1
-        (state result.0 (enlisted suppliers.new) (customed customers.new) (room suppliers.new) (room customers.new)) }
-{
-    let mut rows = [NO_WITHDRAWAL; 256];
-    let m = sheet.fill(&mut rows);
-    step::<M, S>(
-        ledger,
-        map,
-        suppliers,
-        customers,
-        curves,
-        Call::Close(&rows[0..m]),
-    )
+impl SheetRoom {
+    /// Room that holds zeros.
+    fn new() -> SheetRoom
+        ensures { (result.prices ≡ replicate 32 0) × (result.targets ≡ replicate 32 0) }
+    {
+        SheetRoom {
+            prices: [0; 32],
+            targets: [0; 32],
+            rows: [ScheduleRow::default(); 128],
+        }
+    }
+
+    /// The lists of a sheet of the feed, decoded into this room.
+    fn decode(&mut self, sheet: &Sheet<'_>) -> ScheduleSheet<'_>
+        requires { SheetSized (sheet_of sheet.now) }
+        ensures prices { result.shadow_prices.now ≡ (sheet_of sheet.now).prices }
+        ensures targets { result.targets.now ≡ (sheet_of sheet.now).targets }
+        ensures rows { result.rows.now ≡ (sheet_of sheet.now).rows }
+    {
+        let SheetRoom {
+            prices,
+            targets,
+            rows,
+        } = self;
+        ScheduleSheet {
+            shadow_prices: decode(&sheet.prices, prices),
+            targets: decode(&sheet.targets, targets),
+            rows: decode(&sheet.rows, rows),
+        }
+    }
 }
 
 /// Does what the record asks for, or refuses and alters nothing.
 pub(crate) fn apply<M: LocationMap, S: SharingRule>(
     ledger: Ledger,
-    map: &M,
-    suppliers: &mut Book<'_, Supplier>,
-    customers: &mut Book<'_, Customer>,
-    curves: &CurveBook,
+    house: &mut House<'_, M>,
     request: Record<'_>,
 ) -> (Ledger, Result<(), Fault>)
     requires { Sized (says request) }
-    ensures { Step (M.LocationMap.market map.now) S.SharingRule.share
-        (state ledger (enlisted suppliers.old) (customed customers.old) (room suppliers.old) (room customers.old))
-        (asks (curves_of curves.now) (says request.entry))
+    ensures step { Step (M.LocationMap.market house.old.map.now) S.SharingRule.share
+        (state_of ledger house.old)
+        (asks (curves_of house.old.curves.now) (says request.entry))
         result.1
-        (state result.0 (enlisted suppliers.new) (customed customers.new) (room suppliers.new) (room customers.new)) }
+        (state_of result.0 house.new) }
+    ensures rules { SameRules house.old house.new }
 {
     match request {
-        Record::Supplier(new) => {
-            step::<M, S>(
-                ledger,
-                map,
-                suppliers,
-                customers,
-                curves,
-                enrol_supplier(&new),
-            )
+        Record::Supplier(new) => step::<M, S>(ledger, house, Call::EnrolSupplier(new)),
+        Record::Customer { number } => step::<M, S>(ledger, house, Call::EnrolCustomer(number)),
+        Record::Open { hour } => step::<M, S>(ledger, house, Call::Open(hour)),
+        Record::Clear(sheet) => {
+            let mut room = SheetRoom::new();
+            step::<M, S>(ledger, house, Call::Clear(room.decode(&sheet)))
         }
-        Record::Customer { number } => {
-            step::<M, S>(
-                ledger,
-                map,
-                suppliers,
-                customers,
-                curves,
-                enrol_customer(number),
-            )
-        }
-        Record::Open { hour } => {
-            step::<M, S>(ledger, map, suppliers, customers, curves, open(hour))
-        }
-        Record::Clear(sheet) => { clear::<M, S>(ledger, map, suppliers, customers, curves, &sheet) }
         Record::Interval { seconds, sheet } => {
-            settle_interval::<M, S>(ledger, map, suppliers, customers, curves, seconds, &sheet)
+            let mut room = SheetRoom::new();
+            step::<M, S>(ledger, house, Call::Interval(seconds, room.decode(&sheet)))
         }
-        Record::Close(sheet) => { close::<M, S>(ledger, map, suppliers, customers, curves, &sheet) }
-        Record::Void => step::<M, S>(ledger, map, suppliers, customers, curves, void()),
+        Record::Close(rows) => {
+            let mut room = [WithdrawalRow::default(); 256];
+            step::<M, S>(ledger, house, Call::Close(decode(&rows, &mut room)))
+        }
+        Record::Void => step::<M, S>(ledger, house, Call::Void),
     }
 }

@@ -9,7 +9,6 @@
 #![tactic(auto)]
 
 mod advancing;
-mod calls;
 mod courses;
 mod decoding;
 mod finishing;

@@ -2,14 +2,15 @@
 use faults::Fault;
 
 /// The answer to a record, and where its lines begin in the buffer that they end.
-#[derive(Clone, Copy)]
+#[derive(Clone, Copy, PartialEq, Eq, Debug)]
 pub struct Outcome {
     pub answer: Result<(), Fault>,
+    // A place and not the bytes: those would lend the buffer for as long as the outcome is kept.
     pub lines: usize,
 }
 
 /// What became of the next bytes of a feed.
-#[derive(Clone, Copy)]
+#[derive(Clone, Copy, PartialEq, Eq, Debug)]
 pub enum Progress {
     /// No whole record is there: more bytes have to come, or the feed has ended.
     Waiting,

@@ -1,43 +1,35 @@
 //! A record settled, and its lines.
-ghost use Rattle.std.specs.Prelude.{◌≡◌, true, false, List, drop, Err};
-ghost use Rattle.books.specs.Books.{suppliers as enlisted, customers as customed, room};
+// Each function asks that the record's sizes are allowed, as the reader says of what it hands out: an enum has no
+// place for a fact. That map and curves stay is between before and after, which no fact of the house can say.
+ghost use Rattle.std.specs.Prelude.{◌≡◌, option_map, drop, Err};
 ghost use Rattle.curves.specs.Book.{curves_of};
-ghost use Rattle.curves.specs.declared.step.Step.{Step as CurveStep};
 ghost use Rattle.faults.specs.Told.{told_of};
 ghost use Rattle.feed.specs.Entries.{Sized};
 ghost use Rattle.feed.specs.Reading.{says};
-ghost use Rattle.law.specs.Law.{is_close};
 ghost use Rattle.lines.specs.Texts.{text};
 ghost use Rattle.lines.specs.declared.line.Line.TheVariants.{Refused as refusal};
-ghost use Rattle.settlement.specs.Course.{state};
+ghost use Rattle.settlement.specs.Course.{state_of, SameRules};
 ghost use Rattle.engine.specs.Asking.{asks};
-ghost use Rattle.engine.specs.Telling.{fault_at, Settles};
+ghost use Rattle.engine.specs.Telling.{fault_at, Foretold, Settles};
 
 use crate::decoding::apply;
-use crate::noting::note_cents;
+use crate::noting::{Noted, tell_accepted};
 use crate::outcome::Outcome;
-use accounts::{Customer, Supplier};
-use books::Book;
-use curves::CurveBook;
 use faults::Fault;
 use feed::Record;
-use lines::{LINES_ROOM, write_closing, write_refusal};
+use lines::{LINES_ROOM, write_refusal};
 use maps::LocationMap;
-use settlement::Ledger;
+use settlement::{House, Ledger};
 use sharing::SharingRule;
-
-/// The number of the refusal of a record that the ledger's stage does not take.
-const WRONG_STAGE: u16 = 4;
 
 /// The fault of a record at the offset: a ledger knows no feed, so it leaves the offset of a record at the
 /// wrong stage to be told here.
 fn locate(fault: Fault, offset: u64) -> Fault
     ensures { result ≡ fault_at offset fault }
 {
-    if fault.number() == WRONG_STAGE {
-        Fault::WrongStage { offset }
-    } else {
-        fault
+    match fault {
+        Fault::WrongStage { .. } => Fault::WrongStage { offset },
+        other => other,
     }
 }
 
@@ -54,123 +46,59 @@ pub(crate) fn refuse(fault: Fault, offset: u64, out: &mut [u8; LINES_ROOM]) -> O
     }
 }
 
-/// Whether the record asks for a closing.
-fn is_closing(request: &Record<'_>) -> bool
-    ensures { (curves : List (List CurveStep)) → result ≡ is_close (asks curves (says request.now)) }
-{
-    match request {
-        Record::Close(_) => true,
-        _ => false,
-    }
-}
-
-/// Settles a record that is no closing.
-fn settle_quietly<M: LocationMap, S: SharingRule>(
+/// Settles a record, of which it is noted before what its lines will tell if it is accepted.
+fn settle_noted<M: LocationMap, S: SharingRule>(
     ledger: Ledger,
-    map: &M,
-    suppliers: &mut Book<'_, Supplier>,
-    customers: &mut Book<'_, Customer>,
-    curves: &CurveBook,
+    house: &mut House<'_, M>,
     request: Record<'_>,
+    noted: Option<&Noted>,
     offset: u64,
     out: &mut [u8; LINES_ROOM],
 ) -> (Ledger, Outcome)
-    requires { (Sized (says request)) × (is_close (asks (curves_of curves.now) (says request)) ≡ false) }
-    ensures { Settles (M.LocationMap.market map.now) S.SharingRule.share (curves_of curves.now) offset
-        (state ledger (enlisted suppliers.old) (customed customers.old) (room suppliers.old) (room customers.old))
+    requires sized { Sized (says request) }
+    requires noted { Foretold (state_of ledger house.old) (asks (curves_of house.old.curves.now) (says request)) (option_map (λ n. n.now) noted) }
+    ensures settled { Settles (M.LocationMap.market house.old.map.now) S.SharingRule.share (curves_of house.old.curves.now) offset
+        (state_of ledger house.old)
         (says request.entry)
         result.1.answer
-        (state result.0 (enlisted suppliers.new) (customed customers.new) (room suppliers.new) (room customers.new))
+        (state_of result.0 house.new)
         (drop result.1.lines out.new) }
+    ensures rules { SameRules house.old house.new }
 {
-    let (next, done) = apply::<M, S>(ledger, map, suppliers, customers, curves, request);
-    match done {
-        Ok(()) => (
-            next,
-            Outcome {
-                answer: Ok(()),
-                lines: LINES_ROOM,
-            },
-        ),
-        Err(fault) => (next, refuse(fault, offset, out)),
-    }
+    let (next, done) = apply::<M, S>(ledger, house, request);
+    let outcome = match done {
+        Ok(()) => Outcome {
+            answer: Ok(()),
+            lines: tell_accepted(noted, &next, house, out),
+        },
+        Err(fault) => refuse(fault, offset, out),
+    };
+    (next, outcome)
 }
 
-/// Settles a closing, with the lines of what it added to each account.
-fn settle_closing<M: LocationMap, S: SharingRule>(
-    ledger: Ledger,
-    map: &M,
-    suppliers: &mut Book<'_, Supplier>,
-    customers: &mut Book<'_, Customer>,
-    curves: &CurveBook,
-    request: Record<'_>,
-    offset: u64,
-    out: &mut [u8; LINES_ROOM],
-) -> (Ledger, Outcome)
-    requires { (Sized (says request)) × (is_close (asks (curves_of curves.now) (says request)) ≡ true) }
-    ensures { Settles (M.LocationMap.market map.now) S.SharingRule.share (curves_of curves.now) offset
-        (state ledger (enlisted suppliers.old) (customed customers.old) (room suppliers.old) (room customers.old))
-        (says request.entry)
-        result.1.answer
-        (state result.0 (enlisted suppliers.new) (customed customers.new) (room suppliers.new) (room customers.new))
-        (drop result.1.lines out.new) }
-{
-    let hour = ledger.hour();
-    let mut paid = [0; 128];
-    let mut charged = [0; 256];
-    let n = note_cents(suppliers.accounts(), &mut paid);
-    let k = note_cents(customers.accounts(), &mut charged);
-    let (next, done) = apply::<M, S>(ledger, map, suppliers, customers, curves, request);
-    match done {
-        Ok(()) => {
-            let carry = next.carry();
-            let lines = write_closing(
-                out,
-                hour,
-                &paid[0..n],
-                suppliers,
-                &charged[0..k],
-                customers,
-                carry,
-            );
-            (
-                next,
-                Outcome {
-                    answer: Ok(()),
-                    lines,
-                },
-            )
-        }
-        Err(fault) => (next, refuse(fault, offset, out)),
-    }
-}
-
-/// Settles a record of the feed that stands at the offset.
+/// Settles a record of the feed that stands at the offset. A closing is told with what it added to each
+/// account.
 pub(crate) fn settle<M: LocationMap, S: SharingRule>(
     ledger: Ledger,
-    map: &M,
-    suppliers: &mut Book<'_, Supplier>,
-    customers: &mut Book<'_, Customer>,
-    curves: &CurveBook,
+    house: &mut House<'_, M>,
     request: Record<'_>,
     offset: u64,
     out: &mut [u8; LINES_ROOM],
 ) -> (Ledger, Outcome)
     requires { Sized (says request) }
-    ensures { Settles (M.LocationMap.market map.now) S.SharingRule.share (curves_of curves.now) offset
-        (state ledger (enlisted suppliers.old) (customed customers.old) (room suppliers.old) (room customers.old))
+    ensures settled { Settles (M.LocationMap.market house.old.map.now) S.SharingRule.share (curves_of house.old.curves.now) offset
+        (state_of ledger house.old)
         (says request.entry)
         result.1.answer
-        (state result.0 (enlisted suppliers.new) (customed customers.new) (room suppliers.new) (room customers.new))
+        (state_of result.0 house.new)
         (drop result.1.lines out.new) }
+    ensures rules { SameRules house.old house.new }
 {
-    if is_closing(&request) {
-        settle_closing::<M, S>(
-            ledger, map, suppliers, customers, curves, request, offset, out,
-        )
-    } else {
-        settle_quietly::<M, S>(
-            ledger, map, suppliers, customers, curves, request, offset, out,
-        )
+    match (request, ledger.hour()) {
+        (Record::Close(_), Some(hour)) => {
+            let noted = Noted::before(hour, house);
+            settle_noted::<M, S>(ledger, house, request, Some(&noted), offset, out)
+        }
+        _ => settle_noted::<M, S>(ledger, house, request, None, offset, out),
     }
 }

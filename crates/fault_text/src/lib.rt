@@ -9,6 +9,7 @@ use std::fmt;
 pub struct InWords(pub Fault);
 
 /// The name of a layer.
+// A word to be used as it is: a `Display` would only write it out.
 pub fn layer_name(layer: Layer) -> &'static str {
     match layer {
         Layer::Feed => "feed",

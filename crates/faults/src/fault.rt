@@ -1,7 +1,7 @@
 //! The causes of refusal and the layers that find them.
 
 /// Where a refusal arises.
-#[derive(Clone, Copy)]
+#[derive(Clone, Copy, PartialEq, Eq, Debug)]
 pub enum Layer {
     Feed,
     Book,
@@ -11,7 +11,7 @@ pub enum Layer {
 }
 
 /// Why a call is refused. Rows, places, requirements, locations, curves and steps are counted from 0.
-#[derive(Clone, Copy)]
+#[derive(Clone, Copy, PartialEq, Eq, Debug)]
 pub enum Fault {
     /// The feed ends inside the record that begins at the offset.
     Truncated { offset: u64 },
@@ -61,7 +61,7 @@ pub enum Fault {
 
 /// What a refusal tells: its number, its layer, its value if it has one (an hour that was never
 /// closed is none), and for the steps of a curve the step as a second value.
-#[derive(Clone, Copy)]
+#[derive(Clone, Copy, PartialEq, Eq, Debug)]
 pub struct Told {
     pub number: u16,
     pub layer: Layer,

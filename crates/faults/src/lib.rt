@@ -2,7 +2,7 @@
 //!
 //! `Fault` has one variant for each cause, with the values that a refusal tells. What each variant
 //! tells (its number, its layer, its values) is defined once, in specs/Told.antt, and `told` answers
-//! that definition. A fault passes upward unaltered, by `?`.
+//! that definition.
 #![tactic(auto)]
 
 ghost use Rattle.std.specs.Prelude.{◌≡◌, Some, None};
@@ -41,10 +41,7 @@ impl Fault {
             Fault::HourOutOfOrder { last_closed } => Told {
                 number: 21,
                 layer: Layer::Hour,
-                value: match last_closed {
-                    Some(hour) => Some(hour as u64),
-                    None => None,
-                },
+                value: last_closed.map(u64::from),
                 step: None,
             },
             Fault::SheetLength { count } => tell(31, Layer::Sheet, count as u64),

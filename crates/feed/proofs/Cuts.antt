@@ -1,10 +1,9 @@
 -- Lists that stand in parts of some bytes.
-use Rattle.std.proofs.Common.{◌≡◌, ℕ, zero, suc, ◌+◌, ◌*◌, ◌<◌, ◌≤◌, List, map, length, take, drop, refl, ap, ◌∙◌, arith}
+use Rattle.std.proofs.Common.{◌≡◌, ℕ, zero, suc, ◌+◌, ◌*◌, ◌/◌, ◌<◌, ◌≤◌, min, List, map, length, take, drop, refl, ap, ◌∙◌, arith}
 use Rattle.std.specs.List.{range_with_len}
 use Rattle.std.proofs.lemmas.List.{get_or-take, drop-drop, length-take, length-drop}
 use Rattle.feed.specs.Numbers.{le32, numbers_in}
-use Rattle.feed.specs.Entries.{SheetValues, schedule_rows, withdrawal_rows, sheet_in}
-use Rattle.feed.specs.Reading.{number_count, row_count}
+use Rattle.feed.specs.Entries.{SheetValues, schedule_rows, withdrawal_rows, sheet_in, number_count, row_count}
 
 -- two functions that agree at the n numbers from a on
 pub same_counted : {X : Type 0} (f g : ℕ → X) (a n : ℕ) → ((i : ℕ) → a ≤ i → i < a + n → f i ≡ g i) → map f (range_with_len a n) ≡ map g (range_with_len a n)
@@ -48,8 +47,18 @@ module _ (b p r t u s w : List ℕ) (n m : ℕ) (long : length b ≡ 8 * n + 24 
       let lp : number_count p ≡ n = omega (arith, ap length hp, length-take (4 * n) b) in
       let lt : number_count t ≡ n = omega (arith, ap length ht, length-take (4 * n) r, ap length hr, length-drop (4 * n) b) in
       let ls : number_count s ≡ m = omega (arith, ap length hs, length-take (4 * m) u, ap length rest, length-drop (8 * n) b) in
-      let lw : row_count 20 s w ≡ m = omega (arith, ls, ap length rows, length-drop (8 * n + 4 * m) b) in
+      let least : min (number_count s) (length w / 20) ≡ m = omega (arith, ls, ap length rows, length-drop (8 * n + 4 * m) b) in
+      let lw : row_count 20 s w ≡ m = least in
       let ep = numbers_cut b (4 * n) n (omega arith) in
       let et = numbers_cut (drop (4 * n) b) (4 * n) n (omega arith) in
       let es = schedules_cut (drop (8 * n) b) (drop (8 * n + 4 * m) b) (4 * m) m (omega arith) in
       rw (lp, lt, lw, hp, ht, hr, hs, rows, rest, ep, et, es)
+
+module _ (b s w : List ℕ) (m : ℕ) (long : length b ≡ 16 * m) (hs : s ≡ take (4 * m) b) (hw : w ≡ drop (4 * m) b) where
+  pub closing_cut : withdrawal_rows s w (row_count 12 s w) ≡ withdrawal_rows b (drop (4 * m) b) m
+  closing_cut =
+      let ls : number_count s ≡ m = omega (arith, ap length hs, length-take (4 * m) b) in
+      let least : min (number_count s) (length w / 12) ≡ m = omega (arith, ls, ap length hw, length-drop (4 * m) b) in
+      let lw : row_count 12 s w ≡ m = least in
+      let es = withdrawals_cut b (drop (4 * m) b) (4 * m) m (omega arith) in
+      rw (lw, hs, hw, es)

@@ -7,3 +7,4 @@ pub mod Sizes
 pub mod Fronts
 pub mod Fills
 pub mod Later
+pub mod Listed

@@ -15,13 +15,13 @@ abbrev pub file_count : List ℕ → ℕ
 file_count bs = le16 bs 0
 
 -- how many steps curve k has
-abbrev pub step_count : List ℕ → ℕ → ℕ
-step_count bs k = le16 bs (2 + 2 * k)
+abbrev pub step_count_lem : List ℕ → ℕ → ℕ
+step_count_lem bs k = le16 bs (2 + 2 * k)
 
 -- how many steps the curves before curve k have together: the number of its first step in the file
 abbrev pub first_step : List ℕ → ℕ → ℕ
 first_step bs zero = 0
-first_step bs (suc k) = first_step bs k + step_count bs k
+first_step bs (suc k) = first_step bs k + step_count_lem bs k
 
 -- how many steps there are in all
 abbrev pub file_steps : List ℕ → ℕ
@@ -40,7 +40,7 @@ step_in bs j = record {
 
 -- the steps of curve k
 abbrev pub curve_steps : List ℕ → ℕ → List Step
-curve_steps bs k = map (step_in bs) (range_with_len (first_step bs k) (step_count bs k))
+curve_steps bs k = map (step_in bs) (range_with_len (first_step bs k) (step_count_lem bs k))
 
 -- the steps of each curve
 abbrev pub file_curves : List ℕ → List (List Step)

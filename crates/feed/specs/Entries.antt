@@ -1,5 +1,5 @@
 -- What a record says, as values, and where in its body it says it.
-use Rattle.std.specs.Prelude.{◌≡◌, ℕ, ◌+◌, ◌*◌, ◌≤◌, List, map, length, drop}
+use Rattle.std.specs.Prelude.{◌≡◌, ℕ, ◌+◌, ◌*◌, ◌/◌, ◌≤◌, min, nat_lt, cond, ◌==◌, if◌then◌else◌, List, map, length, drop, Option, Some, None}
 use Rattle.std.proofs.Common.{to_z}
 use Rattle.std.specs.Int.{w32}
 use Rattle.std.specs.List.{range_with_len}
@@ -7,7 +7,7 @@ use Rattle.accounts.specs.declared.schedule.ScheduleRow.{ScheduleRow}
 use Rattle.accounts.specs.declared.withdrawal.WithdrawalRow.{WithdrawalRow}
 use Rattle.feed.specs.declared.kind.Kind.{Kind}
 use Rattle.feed.specs.declared.kind.Kind.TheVariants.{Supplier, Customer, Open, Clear, Interval, Close, Void}
-use Rattle.feed.specs.declared.record.NewSupplier.{NewSupplier}
+use Rattle.accounts.specs.declared.enrolment.NewSupplier.{NewSupplier}
 use Rattle.feed.specs.Numbers.{le16, le32, number_in, numbers_in}
 use Rattle.feed.specs.Kinds.{most_prices, most_schedules, most_withdrawals}
 
@@ -25,6 +25,20 @@ pub data Entry : Type 0 where
   interval : ℕ → SheetValues → Entry
   closing : List WithdrawalRow → Entry
   voiding : Entry
+
+-- ---- the rows of a list: of all numbers, and of the other bytes of all rows
+
+-- as many as there are bytes for
+abbrev pub number_count : List ℕ → ℕ
+number_count bs = length bs / 4
+
+-- the same of rows that have so many bytes besides their numbers
+abbrev pub row_count : ℕ → List ℕ → List ℕ → ℕ
+row_count width ns rs = cond (width == 0) (number_count ns) (min (number_count ns) (length rs / width))
+
+-- row i, as it is read of these bytes, if it is all there
+abbrev pub row_in : {R : Type 0} → ℕ → (List ℕ → List ℕ → ℕ → R) → List ℕ → List ℕ → ℕ → Option R
+row_in width row ns rs i = if nat_lt i (row_count width ns rs) then Some (row ns rs i) else None
 
 -- row i, of a list of account numbers and a list of rows of twenty bytes
 abbrev pub schedule_row : List ℕ → List ℕ → ℕ → ScheduleRow

@@ -1,6 +1,7 @@
 -- The kinds of record, the sizes that each may have, and how long it then is.
-use Rattle.std.specs.Prelude.{ℕ, ◌+◌, ◌*◌, Bool, cond, ◌&&◌, Some, None, Option, ◌==◌, nat_le}
+use Rattle.std.specs.Prelude.{◌≡◌, ℕ, ◌+◌, ◌*◌, Bool, cond, ◌&&◌, Some, None, Option, Result, MatchResult, ◌==◌, nat_le}
 use Rattle.feed.specs.declared.kind.Kind.{Kind}
+use Rattle.accounts.specs.declared.supplier.UnknownKind.{UnknownKind}
 use Rattle.feed.specs.declared.kind.Kind.TheVariants.{Supplier, Customer, Open, Clear, Interval, Close, Void}
 
 abbrev pub code_of : Kind → ℕ
@@ -21,6 +22,10 @@ kind_of_lem b =
     (cond (b == 5) (Some Interval)
     (cond (b == 6) (Some Close)
     (cond (b == 7) (Some Void) None))))))
+
+-- the kind that a byte stands for, or that byte where it stands for none
+abbrev pub IsKindOf : ℕ → Result Kind (UnknownKind ℕ) → Type 0
+IsKindOf b r = MatchResult r (λ k. kind_of_lem b ≡ Some k) (λ e. (kind_of_lem b ≡ None) × (e.0 ≡ b))
 
 -- the most requirements, suppliers and customers that a record speaks of
 abbrev pub most_prices : ℕ

@@ -6,4 +6,3 @@ pub mod Reading
 pub mod Filling
 pub mod Runs
 pub mod CurveFile
-pub mod Layouts

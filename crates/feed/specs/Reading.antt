@@ -1,37 +1,33 @@
 -- What a reader hands out, and what it answers.
-use Rattle.std.specs.Prelude.{◌≡◌, ℕ, ◌+◌, ◌/◌, ◌≤◌, min, List, length, Some, None, Ok, Err, Option, Result}
+use Rattle.std.specs.Prelude.{◌≡◌, ℕ, ◌+◌, ◌≤◌, List, map, Some, None, Ok, Err, Option, Result}
+use Rattle.std.specs.List.{range_with_len}
 use Rattle.faults.specs.declared.fault.Fault.{Fault}
 use Rattle.faults.specs.declared.fault.Fault.TheVariants.{Truncated, UnknownKind, SizeNotAllowed}
 use Rattle.faults.specs.Told.{told_of}
 use Rattle.accounts.specs.declared.schedule.ScheduleRow.{ScheduleRow}
 use Rattle.accounts.specs.declared.withdrawal.WithdrawalRow.{WithdrawalRow}
-use Rattle.feed.specs.declared.parts.Numbers.{Numbers}
-use Rattle.feed.specs.declared.parts.ScheduleRows.{ScheduleRows}
-use Rattle.feed.specs.declared.parts.WithdrawalRows.{WithdrawalRows}
+use Rattle.feed.specs.declared.parts.Rows.{Rows}
 use Rattle.feed.specs.declared.parts.Sheet.{Sheet}
 use Rattle.feed.specs.declared.record.Record.{Record}
 use Rattle.feed.specs.declared.record.Record.TheVariants as records
-use Rattle.feed.specs.Numbers.{numbers_in}
-use Rattle.feed.specs.Entries.{Entry, SheetValues, supplier, customer, opening, clearing, interval, closing, voiding, schedule_rows, withdrawal_rows, Sized}
+use Rattle.feed.specs.Numbers.{number_in}
+use Rattle.feed.specs.Entries.{Entry, SheetValues, row_count, supplier, customer, opening, clearing, interval, closing, voiding, schedule_row, withdrawal_row, Sized}
 use Rattle.feed.specs.Front.{Front, ended, truncated, unknown_kind, size_not_allowed, whole}
 
 -- ---- parts of a feed, and a record that has them
 
--- as many as there are bytes for
-abbrev pub number_count : List ℕ → ℕ
-number_count bs = length bs / 4
+-- the rows of a list, each of which is read of the bytes of all numbers and of those that follow them
+abbrev pub rows_of : {R : Type 0} → ℕ → (List ℕ → List ℕ → ℕ → R) → Rows R → List R
+rows_of width row p = map (row p.numbers.now p.rest.now) (range_with_len 0 (row_count width p.numbers.now p.rest.now))
 
-abbrev pub row_count : ℕ → List ℕ → List ℕ → ℕ
-row_count width ns rs = min (number_count ns) (length rs / width)
+abbrev pub numbers_of : Rows ℕ → List ℕ
+numbers_of p = rows_of 0 (λ ns rs i. number_in ns i) p
 
-abbrev pub numbers_of : Numbers → List ℕ
-numbers_of p = numbers_in p.bytes.now (number_count p.bytes.now)
+abbrev pub schedules_of : Rows ScheduleRow → List ScheduleRow
+schedules_of p = rows_of 20 schedule_row p
 
-abbrev pub schedules_of : ScheduleRows → List ScheduleRow
-schedules_of p = schedule_rows p.numbers.now p.rows.now (row_count 20 p.numbers.now p.rows.now)
-
-abbrev pub withdrawals_of : WithdrawalRows → List WithdrawalRow
-withdrawals_of p = withdrawal_rows p.numbers.now p.rows.now (row_count 12 p.numbers.now p.rows.now)
+abbrev pub withdrawals_of : Rows WithdrawalRow → List WithdrawalRow
+withdrawals_of p = rows_of 12 withdrawal_row p
 
 abbrev pub sheet_of : Sheet → SheetValues
 sheet_of s = record { prices = numbers_of s.prices; targets = numbers_of s.targets; rows = schedules_of s.rows }

@@ -1,9 +1,11 @@
 //! The kinds of record.
 ghost use Rattle.std.specs.Prelude.{◌≡◌};
-ghost use Rattle.feed.specs.Kinds.{code_of, kind_of_lem, allowed, allowed_length};
+ghost use Rattle.feed.specs.Kinds.{code_of, kind_of_lem, IsKindOf, allowed, allowed_length};
+
+use accounts::UnknownKind;
 
 /// What a record asks for.
-#[derive(Clone, Copy)]
+#[derive(Clone, Copy, Debug, PartialEq, Eq)]
 pub enum Kind {
     Supplier,
     Customer,
@@ -14,28 +16,31 @@ pub enum Kind {
     Void,
 }
 
-impl Kind {
-    /// The kind that a record's first byte stands for.
-    pub fn from_code(code: u8) -> Option<Kind>
-        ensures { result ≡ kind_of_lem code }
-    {
+/// Kinds by the byte that a record of them begins with.
+impl TryFrom<u8> for Kind {
+    type Error = UnknownKind<u8>;
+
+    ghost try_from_gives = { IsKindOf };
+
+    fn try_from(code: u8) -> Result<Kind, UnknownKind<u8>> {
         match code {
-            1 => Some(Kind::Supplier),
-            2 => Some(Kind::Customer),
-            3 => Some(Kind::Open),
-            4 => Some(Kind::Clear),
-            5 => Some(Kind::Interval),
-            6 => Some(Kind::Close),
-            7 => Some(Kind::Void),
-            _ => None,
+            1 => Ok(Kind::Supplier),
+            2 => Ok(Kind::Customer),
+            3 => Ok(Kind::Open),
+            4 => Ok(Kind::Clear),
+            5 => Ok(Kind::Interval),
+            6 => Ok(Kind::Close),
+            7 => Ok(Kind::Void),
+            _ => Err(UnknownKind(code)),
         }
     }
+}
 
-    /// The byte that a record of this kind begins with.
-    pub fn code(self) -> u8
-        ensures { result ≡ code_of self }
-    {
-        match self {
+impl From<Kind> for u8 {
+    ghost from_gives = { λ kind code. code ≡ code_of kind };
+
+    fn from(kind: Kind) -> u8 {
+        match kind {
             Kind::Supplier => 1,
             Kind::Customer => 2,
             Kind::Open => 3,
@@ -44,6 +49,23 @@ impl Kind {
             Kind::Close => 6,
             Kind::Void => 7,
         }
+    }
+}
+
+impl Kind {
+    /// The kind that a record's first byte stands for.
+    // A name for the conversion, as of the byte below, whose contract says which kind.
+    pub fn from_code(code: u8) -> Option<Kind>
+        ensures { result ≡ kind_of_lem code }
+    {
+        Kind::try_from(code).ok()
+    }
+
+    /// The byte that a record of this kind begins with.
+    pub fn code(self) -> u8
+        ensures { result ≡ code_of self }
+    {
+        u8::from(self)
     }
 
     /// Whether a record of this kind may have the sizes `n` and `m`.

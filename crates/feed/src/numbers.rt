@@ -1,4 +1,5 @@
 //! Numbers in bytes, lowest byte first.
+// One function a width: `from_le_bytes` takes an array of just the number's bytes, which each has to name.
 ghost use Rattle.std.specs.Prelude.{◌≡◌, ◌+◌, ◌≤◌, length};
 ghost use Rattle.feed.specs.Numbers.{le16, le32};
 

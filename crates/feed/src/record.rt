@@ -1,20 +1,11 @@
 //! Records as a reader hands them out. Reading one stands in the module below.
 use crate::parts::{Sheet, WithdrawalRows};
+use accounts::NewSupplier;
 
 pub(crate) mod body;
 
-/// A supplier as it is to be enrolled. Nothing is known of its values yet.
-#[derive(Clone, Copy)]
-pub struct NewSupplier {
-    pub number: u32,
-    pub location: u16,
-    pub kind: u16,
-    pub upper: u32,
-    pub response: u32,
-}
-
 /// One record. Its lists are parts of the feed's bytes.
-#[derive(Clone, Copy)]
+#[derive(Clone, Copy, Debug, PartialEq, Eq)]
 pub enum Record<'a> {
     /// Enrols a supplier.
     Supplier(NewSupplier),

@@ -6,7 +6,7 @@ use faults::Fault;
 
 /// How far a feed reads: how many of its records are read whole, and the refusal that ends the
 /// reading, none at the end of the feed.
-#[derive(Clone, Copy)]
+#[derive(Clone, Copy, PartialEq, Eq, Debug)]
 pub struct Survey {
     pub records: usize,
     pub refusal: Option<Fault>,
@@ -18,23 +18,14 @@ pub fn survey_feed(feed: &[u8]) -> Survey
 {
     let mut reader = Reader::new(feed, 0);
     let mut records = 0;
-    loop {
+    let refusal = loop {
         match reader.next() {
             Ok(Some(_record)) => records += 1,
-            Ok(None) => {
-                return Survey {
-                    records,
-                    refusal: None,
-                };
-            }
-            Err(fault) => {
-                return Survey {
-                    records,
-                    refusal: Some(fault),
-                };
-            }
+            Ok(None) => break None,
+            Err(fault) => break Some(fault),
         }
-    }
+    };
+    Survey { records, refusal }
 }
 
 /// How many records a whole feed has, or the refusal of the first that is none.
@@ -42,10 +33,10 @@ pub fn count_records(feed: &[u8]) -> Result<usize, Fault>
     ensures { Counted feed.now result }
 {
     let found = survey_feed(feed);
-    match found.refusal {
-        None => Ok(found.records),
-        Some(fault) => Err(fault),
+    if let Some(fault) = found.refusal {
+        return Err(fault);
     }
+    Ok(found.records)
 }
 
 /// Bytes that follow a record, or a record of an unknown kind or a size that is not allowed, do

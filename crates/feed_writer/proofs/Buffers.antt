@@ -1,12 +1,13 @@
 -- Writing into a buffer, piece after piece.
-use Rattle.std.proofs.Common.{◌≡◌, ℕ, ◌+◌, ◌*◌, ◌<◌, ◌≤◌, List, [], ◌∷◌, ◌++◌, length, get_or, take, drop, sym, refl, ap, ◌∙◌, subst, add-zero, mul-le-mul_left, mul-add, arith}
+use Rattle.std.proofs.Common.{◌≡◌, ℕ, ◌+◌, ◌*◌, ◌<◌, ◌≤◌, List, [], ◌∷◌, ◌++◌, length, get_or, take, drop, sym, ap, ◌∙◌, subst, add-zero, mul-le-mul_left, mul-add, arith}
 use borrow.Rule.Slice.PartMut.{put_mid}
 use Rattle.std.specs.List.{flat_map, AllByRecursion}
 use Rattle.std.proofs.ByRecursion.{All-more}
 use Rattle.std.proofs.lemmas.List.{append_assoc, length-append, length-take-le, take_at, drop_at, take-append-drop, drop-drop, take_more, take_all, flat_map_more}
 use Rattle.accounts.specs.declared.schedule.ScheduleRow.{ScheduleRow}
 use Rattle.accounts.specs.declared.withdrawal.WithdrawalRow.{WithdrawalRow}
-use Rattle.feed_writer.specs.Bytes.{bytes16, bytes32, number_bytes, schedule_bytes, withdrawal_bytes, header, written}
+use Rattle.feed_writer.specs.Bytes.{bytes32, number_bytes, schedule_bytes, withdrawal_bytes, written}
+use Rattle.feed_writer.specs.Lengths.{length_bytes32, length_schedule_bytes, length_withdrawal_bytes}
 
 -- a part of a buffer that was written whole
 pub put_written : (at k : ℕ) (bs xs ys : List ℕ) → ys ≡ bs → k ≡ length bs → put_mid at k xs ys ≡ written at bs xs
@@ -33,6 +34,10 @@ written_more at n a b xs e h =
 pub follows : (at n : ℕ) (a b xs ys zs : List ℕ) → ys ≡ written at a xs → zs ≡ written n b ys → n ≡ at + length a → n + length b ≤ length xs → zs ≡ written at (a ++ b) xs
 follows at n a b xs ys zs p q e h = q ∙ ap (written n b) p ∙ written_more at n a b xs e h
 
+-- one turn of n has room
+pub turn_fits : (k i n : ℕ) → i < n → k * i + k ≤ k * n
+turn_fits k i n h = omega (arith, mul-le-mul_left {m = i + 1} {n = n} k (omega arith), mul-add k i 1)
+
 -- ---- a loop that writes k bytes for each element
 module _ {X : Type 0} (f : X → List ℕ) (k : ℕ) (l : (x : X) → length (f x) ≡ k) where
   pub length_joined : (xs : List X) → length (flat_map f xs) ≡ k * length xs
@@ -48,7 +53,7 @@ module _ {X : Type 0} (f : X → List ℕ) (k : ℕ) (l : (x : X) → length (f 
         → ys ≡ written at (flat_map f (take i xs)) out → zs ≡ written n (f x) ys → zs ≡ written at (flat_map f (take (i + 1) xs)) out
     rows_more n i x ys zs lt e en room p q =
         let len : length (flat_map f (take i xs)) ≡ k * i = length_joined (take i xs) ∙ ap (λ j. k * j) (length-take-le i xs (omega arith)) in
-        let fit : k * i + k ≤ k * length xs = omega (arith, mul-le-mul_left {m = i + 1} {n = length xs} k (omega arith), mul-add k i 1) in
+        let fit : k * i + k ≤ k * length xs = turn_fits k i (length xs) lt in
         let more : take (i + 1) xs ≡ take i xs ++ x ∷ [] = take_more xs i x lt ∙ ap (λ y. take i xs ++ y ∷ []) (sym e) in
         follows at n (flat_map f (take i xs)) (f x) out ys zs p q (omega (arith, len)) (omega (arith, l x))
         ∙ ap (λ z. written at z out) (flat_map_more f [] (take i xs) x ∙ ap (flat_map f) (sym more))
@@ -64,27 +69,7 @@ module _ {X : Type 0} (P : X → Type 0) (xs : List X) (i : ℕ) where
   pub each_all : length xs ≤ i → AllByRecursion P (take i xs) → AllByRecursion P xs
   each_all h p = subst (AllByRecursion P) (take_all i xs h) p
 
--- ---- how long the pieces are
-pub length_bytes16 : (n : ℕ) → length (bytes16 n) ≡ 2
-unfolding bytes16
-length_bytes16 n = refl
-
-pub length_bytes32 : (n : ℕ) → length (bytes32 n) ≡ 4
-unfolding bytes32
-length_bytes32 n = refl
-
-pub length_schedule_bytes : (r : ScheduleRow) → length (schedule_bytes r) ≡ 20
-unfolding schedule_bytes bytes32
-length_schedule_bytes r = refl
-
-pub length_withdrawal_bytes : (r : WithdrawalRow) → length (withdrawal_bytes r) ≡ 12
-unfolding withdrawal_bytes bytes32
-length_withdrawal_bytes r = refl
-
-pub length_header : (code n m : ℕ) → length (header code n m) ≡ 5
-unfolding header bytes16
-length_header code n m = refl
-
+-- ---- how long lists of pieces are
 pub length_numbers : (xs : List ℕ) → length (flat_map bytes32 xs) ≡ 4 * length xs
 length_numbers xs = length_joined bytes32 4 length_bytes32 xs
 

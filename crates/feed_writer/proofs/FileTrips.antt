@@ -8,14 +8,12 @@ use Rattle.sums.specs.Verdict.{accept}
 use Rattle.curves.specs.declared.step.Step.{Step}
 use Rattle.curves.specs.Steps.{no_step, most_curves, IsCurve}
 use Rattle.feed.specs.Numbers.{le16, le32}
-use Rattle.feed.specs.CurveFile.{file_count, step_count, first_step, file_steps, step_in, curve_steps, file_curves, file_verdict}
+use Rattle.feed.specs.CurveFile.{file_count, step_count_lem, first_step, file_steps, step_in, curve_steps, file_curves, file_verdict}
 use Rattle.feed.proofs.Accepted.{file_law}
-use Rattle.feed_writer.specs.declared.curve_file.Column.{Column}
-use Rattle.feed_writer.specs.declared.curve_file.Column.TheVariants.{Margins, Prices}
 use Rattle.feed_writer.specs.Bytes.{bytes16, bytes32, written}
 use Rattle.feed_writer.specs.Fitting.{Word, Short}
-use Rattle.feed_writer.specs.CurveBytes.{all_steps, number_of, column_bytes, count_bytes, file_bytes, file_size, WroteFile}
-use Rattle.feed_writer.proofs.Buffers.{length_bytes16, length_bytes32}
+use Rattle.feed_writer.specs.CurveBytes.{all_steps, column_bytes, count_bytes, file_bytes, file_size, WroteFile}
+use Rattle.feed_writer.specs.Lengths.{length_bytes16, length_bytes32}
 use Rattle.feed_writer.proofs.Numbers.{back16, number_back, le16_left, le16_right, le32_left, le32_right, in_joined, in_joined16, by_places, by_places_from}
 use Rattle.feed_writer.proofs.Steps.{steps_more, step_among, steps_within, length_column, length_counts}
 
@@ -30,11 +28,11 @@ count_in cs k h l =
     in_joined16 (λ ss. bytes16 (length ss)) 2 (λ ss. length_bytes16 (length ss)) cs k 0 (2 * k) [] h (omega arith) (omega arith)
     ∙ short_back (length (get_or cs k [])) (omega arith)
 
-number_at : (c : Column) (ss : List Step) (j : ℕ) → j < length ss → Word (number_of c (get_or ss j no_step)) → le32 (column_bytes c ss) (4 * j) ≡ number_of c (get_or ss j no_step)
+number_at : (c : Step → ℕ) (ss : List Step) (j : ℕ) → j < length ss → Word (c (get_or ss j no_step)) → le32 (column_bytes c ss) (4 * j) ≡ c (get_or ss j no_step)
 unfolding column_bytes
 number_at c ss j h w =
-    in_joined (λ s. bytes32 (number_of c s)) 4 (λ s. length_bytes32 (number_of c s)) ss j 0 (4 * j) no_step h (omega arith) (omega arith)
-    ∙ number_back (number_of c (get_or ss j no_step)) w
+    in_joined (λ s. bytes32 (c s)) 4 (λ s. length_bytes32 (c s)) ss j 0 (4 * j) no_step h (omega arith) (omega arith)
+    ∙ number_back (c (get_or ss j no_step)) w
 
 -- the numbers of a curve's steps fit four bytes
 abbrev Small : Step → Type 0
@@ -52,19 +50,19 @@ module _ (cs : List (List Step)) (few : length cs ≤ most_curves) (law : (k : �
   pub length_file : length (file_bytes cs) ≡ file_size cs
   unfolding file_bytes
   length_file =
-      simp length-append (omega (arith, length_bytes16 (length cs), length_counts cs, length_column Margins (all_steps cs), length_column Prices (all_steps cs)))
+      simp length-append (omega (arith, length_bytes16 (length cs), length_counts cs, length_column (λ s. s.margin) (all_steps cs), length_column (λ s. s.price) (all_steps cs)))
 
   count_back : file_count (file_bytes cs) ≡ length cs
   unfolding file_bytes bytes16
   count_back = back16 (length cs) (omega arith)
 
-  step_count_back : (k : ℕ) → k < length cs → step_count (file_bytes cs) k ≡ length (get_or cs k [])
+  step_count_back : (k : ℕ) → k < length cs → step_count_lem (file_bytes cs) k ≡ length (get_or cs k [])
   unfolding file_bytes
   step_count_back k h =
       let C : List ℕ = bytes16 (length cs) in
       let K : List ℕ = count_bytes cs in
-      let M : List ℕ = column_bytes Margins (all_steps cs) in
-      let P : List ℕ = column_bytes Prices (all_steps cs) in
+      let M : List ℕ = column_bytes (λ s. s.margin) (all_steps cs) in
+      let P : List ℕ = column_bytes (λ s. s.price) (all_steps cs) in
       let e : C ++ K ++ M ++ P ≡ C ++ (K ++ (M ++ P)) = simp append_assoc in
       let few-steps : length (get_or cs k []) ≤ 8 = (law k h).few in
       ap (λ bs. le16 bs (2 + 2 * k)) e
@@ -92,25 +90,25 @@ module _ (cs : List (List Step)) (few : length cs ≤ most_curves) (law : (k : �
       let ss : List Step = all_steps cs in
       let C : List ℕ = bytes16 n in
       let K : List ℕ = count_bytes cs in
-      let M : List ℕ = column_bytes Margins ss in
-      let P : List ℕ = column_bytes Prices ss in
+      let M : List ℕ = column_bytes (λ s. s.margin) ss in
+      let P : List ℕ = column_bytes (λ s. s.price) ss in
       let small : Small (get_or ss j no_step) = All-get_or Small ss j no_step h (all_small cs law) in
       let l2 : length (C ++ K) ≡ 2 + 2 * n = simp length-append (omega (arith, length_bytes16 n, length_counts cs)) in
-      let l3 : length (C ++ K ++ M) ≡ 2 + 2 * n + 4 * length ss = simp length-append (omega (arith, length_bytes16 n, length_counts cs, length_column Margins ss)) in
+      let l3 : length (C ++ K ++ M) ≡ 2 + 2 * n + 4 * length ss = simp length-append (omega (arith, length_bytes16 n, length_counts cs, length_column (λ s. s.margin) ss)) in
       let margin : le32 (C ++ K ++ M ++ P) (2 + 2 * n + 4 * j) ≡ (get_or ss j no_step).margin =
       ap (λ bs. le32 bs (2 + 2 * n + 4 * j)) (append_assoc (C ++ K) M P)
       ∙ le32_right (C ++ K) (M ++ P) (2 + 2 * n + 4 * j) (4 * j) (omega arith)
-      ∙ le32_left M P (4 * j) (omega (arith, length_column Margins ss))
-      ∙ number_at Margins ss j h small.0 in
+      ∙ le32_left M P (4 * j) (omega (arith, length_column (λ s. s.margin) ss))
+      ∙ number_at (λ s. s.margin) ss j h small.0 in
       let price : le32 (C ++ K ++ M ++ P) (2 + 2 * n + 4 * length ss + 4 * j) ≡ (get_or ss j no_step).price =
       le32_right (C ++ K ++ M) P (2 + 2 * n + 4 * length ss + 4 * j) (4 * j) (omega arith)
-      ∙ number_at Prices ss j h small.1 in
+      ∙ number_at (λ s. s.price) ss j h small.1 in
       rw (steps_back, count_back, margin, price)
 
   curve_back : (k : ℕ) → k < length cs → curve_steps (file_bytes cs) k ≡ get_or cs k []
   curve_back k h =
       let a : first_step (file_bytes cs) k ≡ length (all_steps (take k cs)) = first_back k (omega arith) in
-      let m : step_count (file_bytes cs) k ≡ length (get_or cs k []) = step_count_back k h in
+      let m : step_count_lem (file_bytes cs) k ≡ length (get_or cs k []) = step_count_back k h in
       rw (a, m)
       (by_places_from (get_or cs k []) (step_in (file_bytes cs)) (length (all_steps (take k cs)))
       (λ d i l.

@@ -13,7 +13,7 @@ use Rattle.feed.specs.Numbers.{le16, le32, number_in, numbers_in}
 use Rattle.feed.specs.Entries.{schedule_row, schedule_rows, withdrawal_row, withdrawal_rows}
 use Rattle.feed_writer.specs.Bytes.{bytes32, number_bytes, schedule_bytes, withdrawal_bytes}
 use Rattle.feed_writer.specs.Fitting.{Word, Short, ScheduleFits, WithdrawalFits}
-use Rattle.feed_writer.proofs.Buffers.{length_bytes32, length_schedule_bytes, length_withdrawal_bytes}
+use Rattle.feed_writer.specs.Lengths.{length_bytes32, length_schedule_bytes, length_withdrawal_bytes}
 
 -- ---- one number
 regroup : (a b c d q r n : ℕ) → q * 256 + a ≡ n → r * 256 + b ≡ q → d * 256 + c ≡ r → a + b * 256 + c * 65536 + d * 16777216 ≡ n

@@ -7,10 +7,10 @@ use Rattle.curves.specs.declared.curve.Curve.{Curve}
 use Rattle.curves.specs.Steps.{IsCurve}
 use Rattle.curves.specs.Book.{steps_of}
 use Rattle.curves.proofs.Judging.{held_curve}
-use Rattle.feed_writer.specs.declared.curve_file.Column.{Column}
-use Rattle.feed_writer.specs.Bytes.{bytes16, bytes32, written}
-use Rattle.feed_writer.specs.CurveBytes.{all_steps, number_of, column_bytes, count_bytes}
-use Rattle.feed_writer.proofs.Buffers.{written_none, length_joined, length_bytes16, length_bytes32}
+use Rattle.feed_writer.specs.Bytes.{bytes16, bytes32}
+use Rattle.feed_writer.specs.CurveBytes.{all_steps, column_bytes, count_bytes}
+use Rattle.feed_writer.specs.Lengths.{length_bytes16, length_bytes32}
+use Rattle.feed_writer.proofs.Buffers.{length_joined}
 
 pub joined_append : {X A : Type 0} (f : X → List A) (xs ys : List X) → flat_map f (xs ++ ys) ≡ flat_map f xs ++ flat_map f ys
 joined_append f [] ys = refl
@@ -63,18 +63,16 @@ all_curves (c ∷ cs) zero h = held_curve (steps_of c) (steps_of c) refl c.sound
 all_curves (c ∷ cs) (suc i) h = all_curves cs i (omega arith)
 
 -- ---- columns
-pub length_column : (c : Column) (ss : List Step) → length (column_bytes c ss) ≡ 4 * length ss
+pub length_column : (number : Step → ℕ) (ss : List Step) → length (column_bytes number ss) ≡ 4 * length ss
 unfolding column_bytes
-length_column c ss = length_joined (λ s. bytes32 (number_of c s)) 4 (λ s. length_bytes32 (number_of c s)) ss
-
-pub column_more : (c : Column) (ss ts : List Step) → column_bytes c (ss ++ ts) ≡ column_bytes c ss ++ column_bytes c ts
-unfolding column_bytes
-column_more c ss ts = joined_append (λ s. bytes32 (number_of c s)) ss ts
+length_column number ss = length_joined (λ s. bytes32 (number s)) 4 (λ s. length_bytes32 (number s)) ss
 
 pub length_counts : (cs : List (List Step)) → length (count_bytes cs) ≡ 2 * length cs
 unfolding count_bytes
 length_counts cs = length_joined (λ ss. bytes16 (length ss)) 2 (λ ss. length_bytes16 (length ss)) cs
 
-pub column_none : (c : Column) (at : ℕ) (out : List ℕ) → out ≡ written at (column_bytes c []) out
-unfolding column_bytes
-column_none c at out = sym (written_none at out)
+-- the counts, of curves
+pub counts_of : (curves : List Curve) → flat_map (λ c. bytes16 (length (steps_of c))) curves ≡ count_bytes (map steps_of curves)
+unfolding count_bytes
+counts_of [] = refl
+counts_of (c ∷ cs) = ap (λ bs. bytes16 (length (steps_of c)) ++ bs) (counts_of cs)

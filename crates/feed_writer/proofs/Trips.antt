@@ -1,12 +1,13 @@
 -- Records that are written, and read back.
-use Rattle.std.proofs.Common.{◌≡◌, ℕ, ◌+◌, ◌*◌, true, leb, List, [], ◌∷◌, ◌++◌, length, drop, Some, Ok, sym, refl, ap, ◌∙◌, arith}
+use Rattle.std.proofs.Common.{◌≡◌, ℕ, ◌+◌, ◌*◌, true, leb, List, [], ◌∷◌, ◌++◌, length, drop, Some, Ok, Err, Result, IfOk, sym, refl, ap, ◌∙◌, arith}
+use Rattle.faults.specs.declared.fault.Fault.{Fault}
 use Rattle.std.specs.List.{flat_map, AllByRecursion}
 use Rattle.std.proofs.lemmas.List.{append_assoc, length-append, take_at, drop_at}
 use Rattle.std.proofs.lemmas.Bool.{and_parts, eqb-true, le-leb}
 use Rattle.accounts.specs.declared.withdrawal.WithdrawalRow.{WithdrawalRow}
 use Rattle.feed.specs.declared.kind.Kind.{Kind}
 use Rattle.feed.specs.declared.kind.Kind.TheVariants.{Supplier, Customer, Open, Clear, Interval, Close, Void}
-use Rattle.feed.specs.declared.record.NewSupplier.{NewSupplier}
+use Rattle.accounts.specs.declared.enrolment.NewSupplier.{NewSupplier}
 use Rattle.feed.specs.Numbers.{le32, numbers_in}
 use Rattle.feed.specs.Kinds.{kind_of_lem, code_of, allowed, body_length_lem}
 use Rattle.feed.specs.Entries.{Entry, SheetValues, supplier, customer, opening, clearing, interval, closing, voiding, sheet_in, body_says, schedule_rows, withdrawal_rows}
@@ -15,10 +16,11 @@ use Rattle.feed.proofs.Cuts.{numbers_cut, schedules_cut, withdrawals_cut}
 use Rattle.feed.proofs.Fronts.{front_headed}
 use Rattle.feed.proofs.Sizes.{few}
 use Rattle.feed_writer.specs.Bytes.{bytes16, bytes32, number_bytes, schedule_bytes, withdrawal_bytes, header, supplier_bytes, sheet_bytes, closing_bytes, kind_said, first_size, second_size, body_bytes, bytes_of, written}
-use Rattle.feed_writer.specs.Writing.{paired, writable, length_of, Started, Wrote}
+use Rattle.feed_writer.specs.Writing.{paired, writable, length_of, write_answer, after, Started, Wrote}
 use Rattle.feed_writer.specs.Fitting.{Word, SupplierFits, SheetFits, ClosingFits, Fitting}
 use Rattle.feed_writer.specs.Laws.{RecordBackLaw, FeedBackLaw}
-use Rattle.feed_writer.proofs.Buffers.{length_bytes32, length_header, length_numbers, length_row_numbers, length_schedules, length_withdrawals}
+use Rattle.feed_writer.specs.Lengths.{length_bytes32, length_header}
+use Rattle.feed_writer.proofs.Buffers.{length_numbers, length_row_numbers, length_schedules, length_withdrawals}
 use Rattle.feed_writer.proofs.Numbers.{back16, back32, number_back, numbers_back, schedules_back, withdrawals_back}
 
 -- ---- headers
@@ -156,3 +158,10 @@ wrote e n before exit p s f h =
       holds = h;
       reads = ap front h ∙ record_back e _ w f ∙ ap (whole e) (sym q);
     }
+
+-- what a writer leaves, whatever it answers
+pub wrote_either : (e : Entry) (r : Result ℕ Fault) (before exit : List ℕ) → paired e ≡ true → Fitting e
+    → r ≡ write_answer (allowed (kind_said e) (first_size e) (second_size e)) (length_of e) (length before)
+    → IfOk r (λ n. Started (kind_said e) (first_size e) (second_size e) n (length before)) → exit ≡ after r (bytes_of e) before → Wrote e r before exit
+wrote_either e (Ok n) before exit p f q s h = wrote e n before exit p s f h
+wrote_either e (Err x) before exit p f q s h = record { reply = rw p q; holds = h; reads = tt }

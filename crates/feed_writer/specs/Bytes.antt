@@ -7,7 +7,7 @@ use Rattle.accounts.specs.declared.schedule.ScheduleRow.{ScheduleRow}
 use Rattle.accounts.specs.declared.withdrawal.WithdrawalRow.{WithdrawalRow}
 use Rattle.feed.specs.declared.kind.Kind.{Kind}
 use Rattle.feed.specs.declared.kind.Kind.TheVariants.{Supplier, Customer, Open, Clear, Interval, Close, Void}
-use Rattle.feed.specs.declared.record.NewSupplier.{NewSupplier}
+use Rattle.accounts.specs.declared.enrolment.NewSupplier.{NewSupplier}
 use Rattle.feed.specs.Kinds.{code_of}
 use Rattle.feed.specs.Entries.{Entry, SheetValues, supplier, customer, opening, clearing, interval, closing, voiding}
 

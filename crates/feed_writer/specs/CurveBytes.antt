@@ -5,8 +5,6 @@ use Rattle.faults.specs.declared.fault.Fault.{Fault}
 use Rattle.sums.specs.Verdict.{accept}
 use Rattle.curves.specs.declared.step.Step.{Step}
 use Rattle.feed.specs.CurveFile.{file_verdict, file_curves}
-use Rattle.feed_writer.specs.declared.curve_file.Column.{Column}
-use Rattle.feed_writer.specs.declared.curve_file.Column.TheVariants.{Margins, Prices}
 use Rattle.feed_writer.specs.Bytes.{bytes16, bytes32}
 use Rattle.feed_writer.specs.Writing.{write_answer, after}
 
@@ -14,19 +12,16 @@ use Rattle.feed_writer.specs.Writing.{write_answer, after}
 abbrev pub all_steps : List (List Step) → List Step
 all_steps cs = flat_map (λ ss. ss) cs
 
-abbrev pub number_of : Column → Step → ℕ
-number_of Margins s = s.margin
-number_of Prices s = s.price
-
-unfoldable pub column_bytes : Column → List Step → List ℕ
-column_bytes c ss = flat_map (λ s. bytes32 (number_of c s)) ss
+-- one number of each step
+unfoldable pub column_bytes : (Step → ℕ) → List Step → List ℕ
+column_bytes number ss = flat_map (λ s. bytes32 (number s)) ss
 
 -- how many steps each curve has
 unfoldable pub count_bytes : List (List Step) → List ℕ
 count_bytes cs = flat_map (λ ss. bytes16 (length ss)) cs
 
 unfoldable pub file_bytes : List (List Step) → List ℕ
-file_bytes cs = bytes16 (length cs) ++ count_bytes cs ++ column_bytes Margins (all_steps cs) ++ column_bytes Prices (all_steps cs)
+file_bytes cs = bytes16 (length cs) ++ count_bytes cs ++ column_bytes (λ s. s.margin) (all_steps cs) ++ column_bytes (λ s. s.price) (all_steps cs)
 
 abbrev pub file_size : List (List Step) → ℕ
 file_size cs = 2 + 2 * length cs + 8 * length (all_steps cs)

@@ -4,7 +4,7 @@ use Rattle.std.specs.Int.{w32}
 use Rattle.std.specs.List.{AllByRecursion}
 use Rattle.accounts.specs.declared.schedule.ScheduleRow.{ScheduleRow}
 use Rattle.accounts.specs.declared.withdrawal.WithdrawalRow.{WithdrawalRow}
-use Rattle.feed.specs.declared.record.NewSupplier.{NewSupplier}
+use Rattle.accounts.specs.declared.enrolment.NewSupplier.{NewSupplier}
 use Rattle.feed.specs.Entries.{Entry, SheetValues, supplier, customer, opening, clearing, interval, closing, voiding}
 
 -- two bytes, and four

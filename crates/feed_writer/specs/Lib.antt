@@ -3,3 +3,4 @@ pub mod Writing
 pub mod Fitting
 pub mod Laws
 pub mod CurveBytes
+pub mod Lengths

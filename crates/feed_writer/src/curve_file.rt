@@ -1,31 +1,73 @@
 //! The file of a curve book, written into a buffer.
 ghost use Rattle.std.specs.Prelude.{◌≡◌, ◌+◌, ◌*◌, ◌≤◌, map, length};
+ghost use Rattle.std.specs.Bool.{⊤};
+ghost use Rattle.std.specs.List.{flat_map};
 ghost use Rattle.curves.specs.Steps.{most_curves};
 ghost use Rattle.curves.specs.Book.{steps_of, curves_of};
-ghost use Rattle.feed_writer.specs.Bytes.{written};
-ghost use Rattle.feed_writer.specs.CurveBytes.{all_steps, number_of, column_bytes, count_bytes, WroteFile};
+ghost use Rattle.feed_writer.specs.Bytes.{bytes16, bytes32, written};
+ghost use Rattle.feed_writer.specs.CurveBytes.{all_steps, WroteFile};
+ghost use Rattle.feed_writer.specs.Lengths.{length_bytes16, length_bytes32};
 
-use crate::put::{put_u16, put_u32};
+use crate::put::{Number, Part, put_each};
 use curves::{Curve, CurveBook, Step};
 use faults::Fault;
 
-/// The numbers that a file has of every step, one column after the other.
-#[derive(Clone, Copy)]
-enum Column {
-    Margins,
-    Prices,
+/// How many steps a curve has.
+struct StepCount;
+
+impl Part<Curve> for StepCount {
+    ghost SIZE = { 2 };
+
+    ghost bytes = { λ curve. bytes16 (length (steps_of curve)) };
+
+    ghost fitting = { λ _. ⊤ };
+
+    const SIZE: usize = 2;
+
+    fn put(out: &mut [u8], at: usize, curve: &Curve) {
+        (curve.steps().len() as u16).put(out, at);
+    }
+
+    ghost sized = { λ curve. length_bytes16 (length (steps_of curve)) };
 }
 
-impl Column {
-    /// The step's number in this column.
-    fn of(self, step: Step) -> u32
-        ensures { result ≡ number_of self step }
-    {
-        match self {
-            Column::Margins => step.margin,
-            Column::Prices => step.price,
-        }
+/// The margin of a step.
+// A type for each column: what `put_each` writes is known of its type, and would have to be asked of a closure.
+struct Margin;
+
+impl Part<Step> for Margin {
+    ghost SIZE = { 4 };
+
+    ghost bytes = { λ step. bytes32 step.margin };
+
+    ghost fitting = { λ _. ⊤ };
+
+    const SIZE: usize = 4;
+
+    fn put(out: &mut [u8], at: usize, step: &Step) {
+        step.margin.put(out, at);
     }
+
+    ghost sized = { λ step. length_bytes32 step.margin };
+}
+
+/// The price of a step.
+struct Price;
+
+impl Part<Step> for Price {
+    ghost SIZE = { 4 };
+
+    ghost bytes = { λ step. bytes32 step.price };
+
+    ghost fitting = { λ _. ⊤ };
+
+    const SIZE: usize = 4;
+
+    fn put(out: &mut [u8], at: usize, step: &Step) {
+        step.price.put(out, at);
+    }
+
+    ghost sized = { λ step. length_bytes32 step.price };
 }
 
 /// How many steps the curves have together.
@@ -41,37 +83,17 @@ fn count_steps(curves: &[Curve]) -> usize
     count
 }
 
-/// How many steps each curve has, from `at` on.
-fn put_counts(out: &mut [u8], at: usize, curves: &[Curve])
-    requires { at + 2 * length curves.now ≤ length out.old }
-    ensures { out.new ≡ written at (count_bytes (map steps_of curves.now)) out.old }
-{
-    for (i, curve) in curves.iter().enumerate() {
-        put_u16(out, at + 2 * i, curve.steps().len() as u16);
-    }
-}
-
-/// One column of some steps, from `at` on.
-fn put_steps(out: &mut [u8], at: usize, column: Column, steps: &[Step])
-    requires { at + 4 * length steps.now ≤ length out.old }
-    ensures { out.new ≡ written at (column_bytes column steps.now) out.old }
-{
-    for (i, step) in steps.iter().enumerate() {
-        put_u32(out, at + 4 * i, column.of(*step));
-    }
-}
-
-/// One column of all steps, curve by curve, from `at` on.
-fn put_column(out: &mut [u8], at: usize, column: Column, curves: &[Curve])
-    requires { at + 4 * length (all_steps (map steps_of curves.now)) ≤ length out.old }
-    ensures { out.new ≡ written at (column_bytes column (all_steps (map steps_of curves.now))) out.old }
+/// One number of all steps, curve by curve, from `at` on. Answers where they end.
+fn put_column<C: Part<Step>>(out: &mut [u8], at: usize, curves: &[Curve]) -> usize
+    requires { at + C.SIZE * length (all_steps (map steps_of curves.now)) ≤ length out.old }
+    ensures holds { out.new ≡ written at (flat_map C.bytes (all_steps (map steps_of curves.now))) out.old }
+    ensures end { result ≡ at + C.SIZE * length (all_steps (map steps_of curves.now)) }
 {
     let mut next = at;
     for curve in curves {
-        let steps = curve.steps();
-        put_steps(out, next, column, steps);
-        next += 4 * steps.len();
+        next = put_each::<C, Step>(out, next, curve.steps());
     }
+    next
 }
 
 /// Writes the file of the book, and answers its length. A buffer that is too short tells the length
@@ -86,10 +108,9 @@ pub fn write_curve_book(book: &CurveBook, buffer: &mut [u8]) -> Result<usize, Fa
     if buffer.len() < needed {
         return Err(Fault::BufferTooShort { needed });
     }
-    let margins = 2 + 2 * count;
-    put_u16(buffer, 0, count as u16);
-    put_counts(buffer, 2, curves);
-    put_column(buffer, margins, Column::Margins, curves);
-    put_column(buffer, margins + 4 * steps, Column::Prices, curves);
+    (count as u16).put(buffer, 0);
+    let margins = put_each::<StepCount, Curve>(buffer, 2, curves);
+    let prices = put_column::<Margin>(buffer, margins, curves);
+    put_column::<Price>(buffer, prices, curves);
     Ok(needed)
 }

@@ -9,7 +9,7 @@ use Rattle.sums.specs.Verdict.{Verdict, accept, ◌then◌, want, scan, every}
 use Rattle.sums.proofs.Verdicts.{both, wanted, every_held}
 use Rattle.maps.specs.Market.{Market}
 use Rattle.curves.specs.declared.step.Step.{Step}
-use Rattle.market.specs.declared.reserves.Reserves.{Reserves}
+use Rattle.market.specs.Products.{Reserves}
 use Rattle.market.specs.Prices.{quantity}
 use Rattle.market.specs.Claims.{most_shadow_price, counts_verdict, claim_in_range, price_verdict, WithinCurves}
 use Rattle.market.proofs.Within.{within_curves}

@@ -9,7 +9,7 @@ use Rattle.sums.proofs.Ring.{distr_l}
 use Rattle.sums.proofs.SumLaws.{sum_zero, sum_append, sum_map, sum_add, sum_scale_l}
 use Rattle.maps.specs.Market.{Market}
 use Rattle.curves.specs.declared.step.Step.{Step}
-use Rattle.market.specs.declared.reserves.Reserves.{Reserves}
+use Rattle.market.specs.Products.{Reserves}
 use Rattle.market.specs.Prices.{none_reserved, cost, cost_over_lem}
 use Rattle.market.specs.Laws.{total, earned, earned_over}
 use Rattle.market.proofs.Costs.{cost_is_earned_lem}

@@ -6,7 +6,7 @@ use Rattle.sums.proofs.Ring.{distr_l}
 use Rattle.sums.proofs.Floors.{floor_divides_lem}
 use Rattle.sums.proofs.SumLaws.{sum_map, sum_scale_r}
 use Rattle.maps.specs.Market.{Market}
-use Rattle.market.specs.declared.reserves.Reserves.{Reserves}
+use Rattle.market.specs.Products.{Reserves}
 use Rattle.market.specs.Prices.{worth, amounts, over}
 use Rattle.market.specs.Laws.{total, earned, earned_over}
 use Rattle.sharing.specs.Shares.{grains_per_cent, whole, rest}

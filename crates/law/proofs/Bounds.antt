@@ -6,7 +6,7 @@ use Rattle.sums.specs.Sums.{upto, when}
 use Rattle.sums.proofs.SumLaws.{upto_at_most, pos_sum}
 use Rattle.maps.specs.declared.product.Product.TheVariants.{ThirtyMinute, TenMinute, Spinning}
 use Rattle.maps.specs.Market.{Market}
-use Rattle.market.specs.declared.reserves.Reserves.{Reserves}
+use Rattle.market.specs.Products.{Reserves}
 use Rattle.market.specs.Prices.{Located, located, toward, quantity, cost, cost_over_lem}
 use Rattle.market.proofs.Costs.{cost_differs}
 

@@ -9,7 +9,7 @@ use Rattle.sums.specs.Verdict.{Verdict, accept, accepts}
 use Rattle.sums.proofs.Floors.{floor_at_most, floor_above}
 use Rattle.maps.specs.Market.{Market, MapLaw}
 use Rattle.curves.specs.declared.step.Step.{Step as CurveStep}
-use Rattle.market.specs.declared.reserves.Reserves.{Reserves}
+use Rattle.market.specs.Products.{Reserves}
 use Rattle.market.specs.Prices.{quantity, cost, cost_over_lem}
 use Rattle.market.specs.Claims.{most_shadow_price, WithinCurves}
 use Rattle.market.proofs.Better.{better_never_cheaper}

@@ -6,7 +6,7 @@ use Rattle.sums.specs.Verdict.{Verdict, accept, accepts, want, scan, scan_one}
 use Rattle.sums.proofs.Verdicts.{both, wanted}
 use Rattle.maps.specs.Market.{Market, MapLaw}
 use Rattle.curves.specs.declared.step.Step.{Step as CurveStep}
-use Rattle.market.specs.declared.reserves.Reserves.{Reserves}
+use Rattle.market.specs.Products.{Reserves}
 use Rattle.market.specs.Prices.{cost, cost_over_lem}
 use Rattle.sharing.specs.Rule.{Rule, Fair}
 use Rattle.sharing.specs.Shares.{shared, new_carry}

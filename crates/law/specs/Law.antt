@@ -4,7 +4,7 @@ use Rattle.sums.specs.Sums.{sum_z, each}
 use Rattle.sums.specs.Verdict.{accept}
 use Rattle.maps.specs.Market.{Market, MapLaw}
 use Rattle.curves.specs.declared.step.Step.{Step as CurveStep}
-use Rattle.market.specs.declared.reserves.Reserves.{Reserves}
+use Rattle.market.specs.Products.{Reserves}
 use Rattle.market.specs.Prices.{quantity}
 use Rattle.market.specs.Claims.{WithinCurves}
 use Rattle.market.specs.Laws.{BetterNeverCheaper}

@@ -3,7 +3,7 @@ use Rattle.std.specs.Prelude.{ℕ, ◌+◌, List, [], ◌∷◌, ◌++◌, map, 
 use Rattle.sums.specs.Sums.{each}
 use Rattle.maps.specs.Market.{Market}
 use Rattle.curves.specs.declared.step.Step.{Step}
-use Rattle.market.specs.declared.reserves.Reserves.{Reserves}
+use Rattle.market.specs.Products.{Reserves}
 use Rattle.market.specs.Prices.{cost, cost_over_lem}
 use Rattle.sharing.specs.Rule.{Rule}
 use Rattle.sharing.specs.Shares.{shared, new_carry}

@@ -2,7 +2,7 @@
 use Rattle.std.specs.Prelude.{ℕ, Bool, true, false, List, [], ◌∷◌, ◌++◌, map, ℤ, pos, ◌+ℤ◌, ◌*ℤ◌}
 use Rattle.sums.specs.Sums.{each}
 use Rattle.maps.specs.Market.{Market}
-use Rattle.market.specs.declared.reserves.Reserves.{Reserves}
+use Rattle.market.specs.Products.{Reserves}
 use Rattle.market.specs.Prices.{cost, cost_over_lem}
 use Rattle.market.specs.Laws.{earned, earned_over}
 use Rattle.law.specs.Ledger.{Args, enrol_supplier, enrol_customer, open_hour, clear, interval, close, void, hour_seconds, schedules}

@@ -15,7 +15,7 @@ use Rattle.faults.specs.declared.fault.Fault.TheVariants.{
 use Rattle.sums.specs.Verdict.{Verdict, ◌then◌, want, scan, scan_one}
 use Rattle.maps.specs.Market.{Market}
 use Rattle.curves.specs.declared.step.Step.{Step}
-use Rattle.market.specs.declared.reserves.Reserves.{Reserves}
+use Rattle.market.specs.Products.{Reserves}
 use Rattle.market.specs.Prices.{quantity}
 use Rattle.market.specs.Claims.{price_verdict}
 use Rattle.sharing.specs.Rule.{Rule, most_parts}

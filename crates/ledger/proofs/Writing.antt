@@ -8,7 +8,7 @@ use Rattle.sums.specs.Verdict.{Verdict, accept, ◌then◌}
 use Rattle.sums.proofs.Verdicts.{both}
 use Rattle.maps.specs.Market.{Market}
 use Rattle.curves.specs.declared.step.Step.{Step as CurveStep}
-use Rattle.market.specs.declared.reserves.Reserves.{Reserves}
+use Rattle.market.specs.Products.{Reserves}
 use Rattle.sharing.specs.Rule.{Rule}
 use Rattle.sharing.specs.Shares.{grains_per_cent, whole, shared}
 use Rattle.accounts.specs.Limits.{most_customers}
@@ -73,10 +73,6 @@ module _ (r : Rule) (xs : List Supplier) (ys : List Customer) (settled : ℕ) (g
 -- no book has more accounts than its kind allows
 pub few : {A : Type 0} (most k : ℕ) (xs : List A) → length (take (min most k) xs) ≤ most
 few most k xs = let h = length-take (min most k) xs in omega arith
-
-pub rows_few : (r : Rule) (xs : List Supplier) (ys : List Customer) (settled : ℕ) (grains : ℤ) (rows : List WithdrawalRow) → length ys ≤ most_customers → accept ≡ closing_verdict r xs ys settled grains rows
-    → length rows ≤ most_customers
-rows_few r xs ys settled grains rows h e = let n = sym (length-map rows net) ∙ (withdrawn r xs ys settled grains rows e).whole_book in omega arith
 
 -- the new carry is below a cent for each customer that a book can have
 pub carry_small : (r : Rule) (xs : List Supplier) (ys : List Customer) (settled : ℕ) (c k : ℤ) (rows : List WithdrawalRow) (s : Shares) → length ys ≤ most_customers

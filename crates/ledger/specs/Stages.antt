@@ -10,9 +10,9 @@ use Rattle.ledger.specs.declared.stages.Cleared.{Cleared}
 abbrev pub rest_state : Rest → List Supplier → List Customer → (supplier_room customer_room : ℕ) → State
 rest_state l xs ys p q = record {
   stage = at_rest;
-  last = l.last;
+  last = l.closed.last;
   hour = 0;
-  carry = l.carry;
+  carry = l.closed.carry;
   seconds = 0;
   cost = pos 0;
   suppliers = xs;
@@ -24,9 +24,9 @@ rest_state l xs ys p q = record {
 abbrev pub opened_state : Opened → List Supplier → List Customer → (supplier_room customer_room : ℕ) → State
 opened_state l xs ys p q = record {
   stage = opened;
-  last = l.last;
+  last = l.closed.last;
   hour = l.hour;
-  carry = l.carry;
+  carry = l.closed.carry;
   seconds = 0;
   cost = pos 0;
   suppliers = xs;
@@ -38,9 +38,9 @@ opened_state l xs ys p q = record {
 abbrev pub cleared_state : Cleared → List Supplier → List Customer → (supplier_room customer_room : ℕ) → State
 cleared_state l xs ys p q = record {
   stage = cleared;
-  last = l.last;
+  last = l.closed.last;
   hour = l.hour;
-  carry = l.carry;
+  carry = l.closed.carry;
   seconds = l.seconds;
   cost = l.cost;
   suppliers = xs;

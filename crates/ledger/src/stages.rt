@@ -12,33 +12,35 @@ pub mod in_cleared_hour;
 pub mod in_opened_hour;
 pub mod showing;
 
-/// A ledger between hours.
-pub struct Rest {
-    /// Grains not yet charged to customers.
+/// What the closed hours leave to those after them, whatever the stage.
+#[derive(Clone, Copy)]
+struct ClosedHours {
+    /// Grains of theirs not yet charged to customers.
     carry: i64,
-    /// The last closed hour.
+    /// The last of them.
     last: Option<u32>,
     ghost small: { unsigned_abs carry ≤ grains_per_cent * most_customers },
+}
+
+/// A ledger between hours.
+pub struct Rest {
+    closed: ClosedHours,
 }
 
 /// A ledger in an hour that is not cleared yet. It is spent by clearing or voiding.
 pub struct Opened {
-    carry: i64,
-    last: Option<u32>,
+    closed: ClosedHours,
     hour: u32,
-    ghost small: { unsigned_abs carry ≤ grains_per_cent * most_customers },
 }
 
 /// A ledger in a cleared hour. It is spent by closing or voiding.
 pub struct Cleared {
-    carry: i64,
-    last: Option<u32>,
+    closed: ClosedHours,
     hour: u32,
     /// Seconds settled so far.
     seconds: u32,
     /// What the hour costs so far, in grains, counted by requirement.
     cost: i64,
-    ghost small: { unsigned_abs carry ≤ grains_per_cent * most_customers },
     ghost timed: { seconds ≤ hour_seconds },
     ghost bounded: { unsigned_abs cost ≤ most_cost * (hour_seconds + seconds) },
 }

@@ -1,22 +1,13 @@
 -- One writing before another, and the lengths of what is written.
-use Rattle.std.proofs.Common.{◌≡◌, ℕ, ◌+◌, ◌-◌, ◌/◌, ◌^◌, ◌<◌, ◌≤◌, List, [], ◌∷◌, ◌++◌, length, take, drop, set, ℤ, pos, negsuc, ◌-ℤ◌, nat_abs, ◌≤ℤ◌, ◌<ℤ◌, Ok, Err, decimal, sym, refl, ap, ◌∙◌, subst, append_assoc, append-nil, arith}
+use Rattle.std.proofs.Common.{◌≡◌, ℕ, ◌+◌, ◌/◌, ◌^◌, ◌<◌, ◌≤◌, List, [], ◌∷◌, ◌++◌, length, take, drop, ℤ, pos, negsuc, ◌-ℤ◌, nat_abs, ◌≤ℤ◌, ◌<ℤ◌, Ok, decimal, sym, refl, ap, ◌∙◌, subst, append_assoc, append-nil, arith}
 use Rattle.std.specs.Fmt.{signed_decimal}
 use Rattle.std.proofs.lemmas.Int.{ints}
-use Rattle.std.proofs.lemmas.List.{length-append, take-take, take-set-le, drop-set, drop_all}
-use Rattle.std.proofs.lemmas.Fmt.{decimal_digit, decimal_step, length-decimal-le}
+use Rattle.std.proofs.lemmas.List.{length-append, take-take, drop_all}
+use Rattle.std.proofs.lemmas.Fmt.{decimal_step, length-decimal-le}
 use Rattle.std.proofs.lemmas.Bool.Decides.{nat_tests}
-use Rattle.faults.specs.declared.fault.Fault.TheVariants.{BufferTooShort}
-use Rattle.lines.specs.Texts.{amount_text}
 use Rattle.lines.specs.Putting.{Put, Closes, write_answer}
-
-pub put_set : (xs : List ℕ) (at b : ℕ) → 0 < at → at ≤ length xs → Put (b ∷ []) xs (set xs (at - 1) b) at (at - 1)
-put_set xs at b some room =
-    let s : at - 1 + 1 ≡ at = omega arith in
-    record {
-      place = s;
-      text = subst (λ n. drop (at - 1) (set xs (at - 1) b) ≡ b ∷ drop n xs) s (drop-set xs (at - 1) b (omega arith));
-      front = take-set-le (at - 1) xs (at - 1) b (omega arith);
-    }
+use Rattle.lines.specs.Tails.{Grown}
+use Rattle.lines.specs.declared.tail.Tail.{Tail}
 
 -- a text before one that was put before
 pub put_before : (a b xs ys zs : List ℕ) (at middle start : ℕ) → Put b xs ys at middle → Put a ys zs middle start → Put (a ++ b) xs zs at start
@@ -26,13 +17,6 @@ put_before a b xs ys zs at middle start p q = record {
   front = q.front ∙ sym (take-take start middle ys (let h = q.place in omega arith)) ∙ ap (take start) p.front
       ∙ take-take start middle xs (let h = q.place in omega arith);
 }
-
--- the same text by another name
-pub put_same : (a b xs ys : List ℕ) (at start : ℕ) → a ≡ b → Put a xs ys at start → Put b xs ys at start
-put_same a b xs ys at start e p = subst (λ t. Put t xs ys at start) e p
-
-pub length_digit : (n : ℕ) → n < 10 → length (decimal n) ≡ 1
-length_digit n h = ap length (decimal_digit n h)
 
 pub length_step : (n : ℕ) → 10 ≤ n → n < 2 ^ 64 → length (decimal n) ≡ length (decimal (n / 10)) + 1
 length_step n h f = ap length (decimal_step n h f) ∙ length-append (decimal (n / 10)) _
@@ -77,15 +61,28 @@ put_closes bs xs ys at start end p = record {
 pub less_none : (z : ℤ) → z -ℤ pos 0 ≡ z
 less_none z = omega (arith, ints)
 
--- one line, of an amount by itself
-pub amount_closes : (letter hour number : ℕ) (z : ℤ) (xs ys : List ℕ) (at start : ℕ) → length xs ≡ at
-    → Put (amount_text letter hour number (z -ℤ pos 0)) xs ys at start → Closes (amount_text letter hour number z) xs ys start
-amount_closes letter hour number z xs ys at start end p =
-    put_closes _ _ _ _ _ end (put_same _ _ _ _ _ _ (ap (amount_text letter hour number) (less_none z)) p)
+-- ---- a text that grows
+pub grown_none : (s : Tail) → Grown [] s s
+grown_none s = record { same = refl; put = put_none s.out.now s.start }
+
+pub grown_before : (a b : List ℕ) (s t u : Tail) → Grown b s t → Grown a t u → Grown (a ++ b) s u
+grown_before a b s t u p q = record {
+  same = q.same ∙ p.same;
+  put = put_before a b s.out.now t.out.now u.out.now s.start t.start u.start p.put q.put;
+}
+
+pub grown_same : (a b : List ℕ) (s t : Tail) → a ≡ b → Grown a s t → Grown b s t
+grown_same a b s t e p = subst (λ x. Grown x s t) e p
+
+pub grown_to : (a : List ℕ) (s t u : Tail) → t ≡ u → Grown a s t → Grown a s u
+grown_to a s t u e p = subst (λ x. Grown a s x) e p
+
+-- what has grown from a buffer's end closes it
+pub grown_closes : (bs xs : List ℕ) (s t : Tail) (start : ℕ) → s.out.now ≡ xs → s.start ≡ length xs → start ≡ t.start → Grown bs s t → Closes bs xs t.out.now start
+grown_closes bs xs s t start bytes end begins g =
+    let put : Put bs xs t.out.now (length xs) t.start = subst (λ n. Put bs xs t.out.now n t.start) end (subst (λ l. Put bs l t.out.now s.start t.start) bytes g.put) in
+    subst (λ n. Closes bs xs t.out.now n) (sym begins) (put_closes bs xs t.out.now (length xs) t.start refl put)
 
 -- ---- the answer of a write
 pub write_fits : (n needed room : ℕ) → n ≡ needed → needed ≤ room → Ok n ≡ write_answer needed room
 write_fits n needed room e h = grind (arith, nat_tests)
-
-pub write_short : (n needed room : ℕ) → n ≡ needed → room < needed → Err (BufferTooShort n) ≡ write_answer needed room
-write_short n needed room e h = grind (arith, nat_tests)

@@ -1,43 +1,38 @@
 //! The lines of a closing.
 ghost use Rattle.std.specs.Prelude.{◌+◌, ◌*◌, ◌≤◌, length};
 ghost use Rattle.books.specs.Books.{suppliers as enlisted, customers as customed};
-ghost use Rattle.lines.specs.Putting.{Put, Closes};
-ghost use Rattle.lines.specs.Texts.{most_line, texts};
-ghost use Rattle.lines.specs.Closings.{account_texts, closing_lines};
+ghost use Rattle.lines.specs.Putting.{Closes};
+ghost use Rattle.lines.specs.Texts.{texts};
+ghost use Rattle.lines.specs.Closings.{closing_lines};
 
-use crate::text::{LINES_ROOM, put_amount, put_carry};
+use crate::line::{Line, Side};
+use crate::tail::Tail;
+use crate::text::LINES_ROOM;
 use accounts::{Account, Customer, Supplier};
 use books::Book;
 
-/// The lines of accounts: what the cents of each have grown by.
-fn put_accounts<A: Account>(
-    out: &mut [u8],
-    at: usize,
-    letter: u8,
-    hour: u32,
-    before: &[i64],
-    accounts: &[A],
-) -> usize
-    requires { (most_line * length accounts.now ≤ at) × (at ≤ length out.old) }
-    ensures put { Put (account_texts A.Numbered.numbered A.Account.money letter hour before.now accounts.now) out.old out.new at result }
-    ensures short { at ≤ result + most_line * length accounts.now }
-{
-    let mut start = at;
-    let mut i = accounts.len().min(before.len());
-    while i > 0 {
-        i -= 1;
-        let account = accounts[i];
-        start = put_amount(
-            out,
-            start,
-            letter,
-            hour,
-            account.number(),
-            before[i],
-            account.cents(),
-        );
+impl Tail<'_> {
+    ghost use Rattle.lines.specs.Sides.{side_letter};
+    ghost use Rattle.lines.specs.Tails.{Grown};
+    ghost use Rattle.lines.specs.Texts.{most_line};
+    ghost use Rattle.lines.specs.Closings.{account_texts};
+
+    /// The lines of accounts: what the cents of each have grown by.
+    fn accounts<A: Account>(&mut self, side: Side, hour: u32, before: &[i64], accounts: &[A])
+        requires { most_line * length accounts.now ≤ self.old.start }
+        ensures grown { Grown (account_texts A.Numbered.numbered A.Account.money (side_letter side) hour before.now accounts.now) self.old self.new }
+        ensures short { self.old.start ≤ self.new.start + most_line * length accounts.now }
+    {
+        // Both from the back, so the longer is cut to the other's length first.
+        let count = accounts.len().min(before.len());
+        let pairs = accounts[..count]
+            .iter()
+            .rev()
+            .zip(before[..count].iter().rev());
+        for (account, cents) in pairs {
+            self.amount(side, hour, account.number(), *cents, account.cents());
+        }
     }
-    start
 }
 
 /// The lines of a closing, at the end of the buffer: what each supplier is paid and each customer is
@@ -53,7 +48,9 @@ pub fn write_closing(
 ) -> usize
     ensures { Closes (texts (closing_lines hour paid.now (enlisted suppliers.now) charged.now (customed customers.now) carry)) out.old out.new result }
 {
-    let start = put_carry(out, LINES_ROOM, hour, carry);
-    let start = put_accounts(out, start, b'C', hour, charged, customers.accounts());
-    put_accounts(out, start, b'P', hour, paid, suppliers.accounts())
+    let mut tail = Tail::new(out);
+    tail.line(Line::Carried { hour, carry });
+    tail.accounts(Side::Charged, hour, charged, customers.accounts());
+    tail.accounts(Side::Paid, hour, paid, suppliers.accounts());
+    tail.start()
 }

@@ -5,8 +5,8 @@
 #![tactic(auto)]
 
 mod closing;
-mod digits;
 mod line;
+mod tail;
 mod text;
 mod writing;
 

@@ -1,13 +1,15 @@
--- What an accepted load shows, and that padding an array changes no reply.
-use Rattle.std.proofs.Common.{◌≡◌, ℕ, zero, suc, ◌*◌, ◌/◌, ◌%◌, ◌≤◌, Bool, true, ◌&&◌, ◌||◌, eqb, ltb, leb, List, length, get_or, sym, refl, ap, ◌∙◌, arith}
+-- What an accepted load shows.
+use Rattle.std.proofs.Common.{◌≡◌, ℕ, ◌<◌, ◌≤◌, true, ◌&&◌, ltb, leb, List, length, get_or, sym, refl, ap, ◌∙◌, arith}
 use Rattle.std.proofs.lemmas.Bool.Decides.{nat_tests}
 use Rattle.faults.specs.declared.fault.Fault.TheVariants.{MapArrays}
 use Rattle.sums.specs.Verdict.{accept}
 use Rattle.sums.proofs.Verdicts.{both, wanted, every_held}
-use Rattle.maps.specs.declared.product.Product.{Product}
-use Rattle.maps.specs.Market.{SameMarket, quality_of}
-use Rattle.maps.specs.Tree.{wanted_at, has_bit_lem, requirement_slots, covers, slot_counts, loaded_market, ParentsFall, map_verdict, sizes_fit, is_placed_lem}
-use Rattle.maps.specs.Slots.{slots_same}
+use Rattle.maps.specs.Market.{Market, SameMarket}
+use Rattle.std.proofs.Math.ListN.{get_or-map}
+use Rattle.std.proofs.lemmas.List.{length-map}
+use Rattle.maps.specs.declared.place.Place.{Place}
+use Rattle.maps.specs.Places.{parents_of, masks_of}
+use Rattle.maps.specs.Tree.{requirement_slots, ParentsFall, map_verdict, sizes_fit, is_placed_lem, parent_fits}
 
 pub record Accepted (count : ℕ) (ps ms : List ℕ) : Type 0 where
   pub some : 1 ≤ count
@@ -32,25 +34,18 @@ accepted count ps ms h =
       asks = grind (arith, nat_tests);
     }
 
-module _ (xs ps ys ms : List ℕ) (same-parents : (i : ℕ) → get_or xs i 0 ≡ get_or ps i 0) (same-masks : (i : ℕ) → get_or ys i 0 ≡ get_or ms i 0) where
-  pub falls_alike : (count : ℕ) → ParentsFall count ps → ParentsFall count xs
-  falls_alike count f b l = let e = same-parents b in let g = f b l in (omega arith, λ z. omega (arith, g.1 z))
+-- a location by itself and by the arrays
+pub placed_at : (ps : List Place) (i : ℕ) → i < length ps
+    → is_placed_lem (parents_of ps) (masks_of ps) i
+    ≡ (parent_fits (get_or ps i (record { parent = 0; mask = 0 })).parent i && leb (get_or ps i (record { parent = 0; mask = 0 })).mask 7)
+placed_at ps i l =
+    let a = get_or-map (λ (p : Place). p.parent) ps i (record { parent = 0; mask = 0 }) in
+    let b = get_or-map (λ (p : Place). p.mask) ps i (record { parent = 0; mask = 0 }) in
+    rw (a, b)
 
-  pub slots_alike : (count : ℕ) → requirement_slots count ys ≡ requirement_slots count ms
-  slots_alike count = slots_same (wanted_at ys) (wanted_at ms) (λ j. ap (λ (m : ℕ). has_bit_lem m (j % 3)) (same-masks (j / 3))) (3 * count)
+-- there are as many locations as parents
+pub as_many : (ps : List Place) (parents : List ℕ) (count : ℕ) → parents_of ps ≡ parents → length parents ≡ count → length ps ≡ count
+as_many ps parents count e n = sym (length-map ps (λ (p : Place). p.parent)) ∙ ap length e ∙ n
 
-  covers_alike : (n a b : ℕ) → covers xs n a b ≡ covers ps n a b
-  covers_alike zero a b = refl
-  covers_alike (suc n) a b = ap (λ (t : Bool). eqb a b || t) (covers_alike n a (get_or xs b 0) ∙ ap (covers ps n a) (same-parents b))
-
-  slot_alike : (s : ℕ) (p : Product) (l : ℕ) → slot_counts xs s p l ≡ slot_counts ps s p l
-  slot_alike s p l = ap (λ (t : Bool). t && leb (s % 3) (quality_of p)) (covers_alike 10 (s / 3) l)
-
-  pub same_market : (count : ℕ) → SameMarket (loaded_market count xs ys) (loaded_market count ps ms)
-  same_market count = record {
-    requirements = ap length (slots_alike count);
-    locations = refl;
-    counts = λ k p l.
-        ap (λ (ss : List ℕ). ltb k (length ss) && (ltb l count && slot_counts xs (get_or ss k 0) p l)) (slots_alike count)
-        ∙ ap (λ (t : Bool). ltb k (length (requirement_slots count ms)) && (ltb l count && t)) (slot_alike (get_or (requirement_slots count ms) k 0) p l);
-  }
+pub same_itself : (m : Market) → SameMarket m m
+same_itself m = record { requirements = refl; locations = refl; counts = λ k p l. refl }

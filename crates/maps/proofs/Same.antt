@@ -1,16 +1,13 @@
 -- The tree of the fixed map replies as the fixed map: a computed table inside the counts, and no outside.
-use Rattle.std.proofs.Common.{◌≡◌, ℕ, zero, suc, ◌<◌, Bool, true, false, List, [], ◌∷◌, ◌++◌, get_or, replicate, sym, refl, ◌∙◌, inl, inr, arith, rules}
+use Rattle.std.proofs.Common.{◌≡◌, ℕ, ◌<◌, Bool, true, false, sym, refl, ◌∙◌, inl, inr, arith, rules}
 use Rattle.std.proofs.lemmas.Bool.{cases_lt}
 use Rattle.sums.specs.Verdict.{accept, accepts, every}
-use Rattle.sums.proofs.Tables.{same_all}
 use Rattle.sums.proofs.Verdicts.{every_held, accepted}
 use Rattle.maps.specs.Trees.{loaded_lawful}
-use Rattle.maps.proofs.Loading.{same_market}
 use Rattle.maps.specs.declared.product.Product.{Product}
 use Rattle.maps.specs.declared.product.Product.TheVariants.{ThirtyMinute, TenMinute, Spinning}
-use Rattle.maps.specs.Market.{SameMarket}
-use Rattle.maps.specs.Fixed.{fixed_counts, fixed_market}
-use Rattle.maps.specs.Tree.{loaded_counts, loaded_market, fixed_parents, fixed_masks, TreeRepliesAsFixed}
+use Rattle.maps.specs.Fixed.{fixed_counts}
+use Rattle.maps.specs.Tree.{loaded_counts, fixed_parents, fixed_masks, TreeRepliesAsFixed}
 
 abbrev tree_counts : ℕ → Product → ℕ → Bool
 tree_counts = loaded_counts 5 fixed_parents fixed_masks
@@ -68,18 +65,3 @@ same_counts k p l = elim (cases_lt k 15) [
 
 pub tree_replies_as_fixed_lem : TreeRepliesAsFixed
 tree_replies_as_fixed_lem = record { requirements = refl; locations = refl; counts = same_counts }
-
--- the same, with the arrays padded to ten entries
-padded_same : (xs : List ℕ) (n i : ℕ) → get_or (xs ++ replicate n 0) i 0 ≡ get_or xs i 0
-padded_same [] n i = same_all n i 0
-padded_same (x ∷ xs) n zero = refl
-padded_same (x ∷ xs) n (suc i) = padded_same xs n i
-
-pub fixed_tree_same : SameMarket (loaded_market 5 (fixed_parents ++ replicate 5 0) (fixed_masks ++ replicate 5 0)) fixed_market
-fixed_tree_same =
-    let p = same_market (fixed_parents ++ replicate 5 0) fixed_parents (fixed_masks ++ replicate 5 0) fixed_masks (padded_same fixed_parents 5) (padded_same fixed_masks 5) 5 in
-    record {
-      requirements = p.requirements ∙ tree_replies_as_fixed_lem.requirements;
-      locations = refl;
-      counts = λ k q l. p.counts k q l ∙ same_counts k q l;
-    }

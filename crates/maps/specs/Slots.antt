@@ -17,7 +17,7 @@ pub slots_few : (test : ℕ → Bool) (n : ℕ) → length (slots test n) ≤ n
 slots_few test zero = omega arith
 slots_few test (suc n) = let h = slots_few test n in let m = slots_more test n in let a : n + 1 ≡ suc n = omega arith in grind (arith, nat_tests)
 
-slots_below : (test : ℕ → Bool) (r n : ℕ) → r < n → test r ≡ true → length (slots test r) < length (slots test n)
+pub slots_below : (test : ℕ → Bool) (r n : ℕ) → r < n → test r ≡ true → length (slots test r) < length (slots test n)
 slots_below test r zero h t = absurd (omega arith)
 slots_below test r (suc n) h t =
     let m : length (slots test (suc n)) ≡ length (slots test n) + cond (test n) 1 0 = rw add-one at (slots_more test n) in

@@ -6,6 +6,7 @@ ghost use Rattle.maps.specs.Tree.{TreeRepliesAsFixed, TenStepsFindAncestors};
 mod fixed_map;
 mod loaded_map;
 mod location_map;
+mod place;
 mod product;
 
 pub use crate::fixed_map::FixedMap;

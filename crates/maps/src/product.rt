@@ -19,10 +19,6 @@ impl Product {
     pub fn quality(self) -> usize
         ensures { result ≡ quality_of self }
     {
-        match self {
-            Product::ThirtyMinute => 0,
-            Product::TenMinute => 1,
-            Product::Spinning => 2,
-        }
+        self as usize
     }
 }

@@ -6,7 +6,7 @@ use Rattle.sums.proofs.Ring.{distr_sub_l}
 use Rattle.sums.proofs.SumLaws.{sum_ext, sum_sub, pos_sum, pos_when, weighed_either_way}
 use Rattle.maps.specs.declared.product.Product.{Product}
 use Rattle.maps.specs.Market.{Market}
-use Rattle.market.specs.declared.reserves.Reserves.{Reserves}
+use Rattle.market.specs.Products.{Reserves}
 use Rattle.market.specs.Prices.{products, tenths, price, located, quantity, worth, amounts, over, cost, cost_over_lem}
 use Rattle.market.specs.Laws.{total, earned, earned_over, CostIsEarned}
 

@@ -7,10 +7,9 @@ use Rattle.sums.specs.Sums.{upto, when}
 use Rattle.sums.proofs.SumLaws.{upto_none, upto_at_most}
 use Rattle.maps.specs.declared.product.Product.TheVariants.{ThirtyMinute, TenMinute, Spinning}
 use Rattle.maps.specs.Market.{Market, MapLaw}
-use Rattle.market.specs.declared.reserves.Reserves.{Reserves}
-use Rattle.market.specs.declared.quantity.Totals.{Totals}
+use Rattle.market.specs.Products.{Reserves}
 use Rattle.market.specs.Prices.{Located, located, none_reserved, toward, quantity}
-use Rattle.market.specs.Totals.{no_totals, counted, AtMost, plus, added, Tallies}
+use Rattle.market.specs.Totals.{Totals, no_totals, counted, AtMost, plus, added, Tallies}
 use Rattle.market.proofs.Beyond.{not_located, not_required}
 
 toward_beyond : (m : Market) → MapLaw m → (k l : ℕ) (r : Reserves) → m.locations ≤ l → toward m k l r ≡ 0

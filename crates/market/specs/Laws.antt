@@ -3,7 +3,7 @@ use Rattle.std.specs.Prelude.{◌≡◌, ℕ, ◌≤◌, List, [], ◌∷◌, le
 use Rattle.sums.specs.Sums.{sum_z, each}
 use Rattle.maps.specs.declared.product.Product.TheVariants.{ThirtyMinute, TenMinute, Spinning}
 use Rattle.maps.specs.Market.{Market}
-use Rattle.market.specs.declared.reserves.Reserves.{Reserves}
+use Rattle.market.specs.Products.{Reserves}
 use Rattle.market.specs.Prices.{price, worth, amounts, over, cost, cost_over_lem}
 
 -- at every location ten-minute reserve is priced no lower than thirty-minute, and spinning no lower than ten-minute

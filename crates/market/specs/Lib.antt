@@ -1,3 +1,4 @@
+pub mod Products
 pub mod Prices
 pub mod Tables
 pub mod Claims

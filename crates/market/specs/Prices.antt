@@ -4,15 +4,13 @@ use Rattle.sums.specs.Sums.{upto, sum_z, when}
 use Rattle.maps.specs.declared.product.Product.{Product}
 use Rattle.maps.specs.declared.product.Product.TheVariants.{ThirtyMinute, TenMinute, Spinning}
 use Rattle.maps.specs.Market.{Market}
-use Rattle.market.specs.declared.reserves.Reserves.{Reserves}
+use Rattle.market.specs.Products.{Reserves, amount_of}
 
 abbrev pub products : List Product
 products = ThirtyMinute ∷ TenMinute ∷ Spinning ∷ []
 
 abbrev pub tenths : Reserves → Product → ℕ
-tenths r ThirtyMinute = r.thirty
-tenths r TenMinute = r.ten
-tenths r Spinning = r.spinning
+tenths = amount_of
 
 abbrev pub none_reserved : Reserves
 none_reserved = record { thirty = 0; ten = 0; spinning = 0 }

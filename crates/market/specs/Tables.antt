@@ -2,7 +2,7 @@
 use Rattle.std.specs.Prelude.{ℕ, List}
 use Rattle.maps.specs.declared.product.Product.TheVariants.{ThirtyMinute, TenMinute, Spinning}
 use Rattle.maps.specs.Market.{Market}
-use Rattle.market.specs.declared.prices.ProductPrices.{ProductPrices}
+use Rattle.market.specs.Products.{ProductPrices}
 use Rattle.market.specs.Prices.{price}
 
 abbrev pub no_prices : ProductPrices

@@ -3,9 +3,13 @@ use Rattle.std.specs.Prelude.{◌≡◌, ℕ, ◌+◌, ◌*◌, ◌^◌, ◌≤�
 use Rattle.sums.specs.Sums.{upto, when}
 use Rattle.maps.specs.declared.product.Product.TheVariants.{ThirtyMinute, TenMinute, Spinning}
 use Rattle.maps.specs.Market.{Market, MapLaw}
-use Rattle.market.specs.declared.reserves.Reserves.{Reserves}
-use Rattle.market.specs.declared.quantity.Totals.{Totals}
+use Rattle.market.specs.declared.per_product.PerProduct.{PerProduct}
+use Rattle.market.specs.Products.{Reserves}
 use Rattle.market.specs.Prices.{quantity}
+
+-- all tenths of each product at one location
+abbrev pub Totals : Type 0
+Totals = PerProduct ℕ
 
 abbrev pub no_totals : Totals
 no_totals = record { thirty = 0; ten = 0; spinning = 0 }

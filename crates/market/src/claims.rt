@@ -15,78 +15,96 @@ pub const MOST_SHADOW_PRICE: u32 = 100_000;
 /// The highest target, in tenths of a MW.
 pub const MOST_TARGET: u32 = 1_000_000;
 
-/// The element at the place, or the other past the end.
-fn at_or<T: Copy>(items: &[T], k: usize, other: T) -> T
-    ensures { result ≡ slice_index_or items.now k other }
+/// The item at the place, or the other where there is none.
+fn at_or<T: Copy>(items: &[T], place: usize, other: T) -> T
+    ensures { result ≡ slice_index_or items.now place other }
 {
-    if k < items.len() { items[k] } else { other }
+    items.get(place).copied().unwrap_or(other)
 }
 
-/// Prices, targets and curves must each number the requirements.
-fn check_counts(
-    requirements: usize,
-    prices: usize,
-    targets: usize,
-    curves: usize,
-) -> Result<(), Fault>
-    ensures { result ≡ counts_verdict requirements prices targets curves }
-{
-    if prices == requirements && targets == requirements && curves == requirements {
-        Ok(())
-    } else {
-        Err(Fault::RequirementCount { requirements })
+/// Claimed shadow prices, with the targets, curves and quantities that they are held to. A price, a
+/// target or a quantity that is not given is 0.
+#[derive(Clone, Copy)]
+struct Claim<'a> {
+    shadow_prices: &'a [u32],
+    targets: &'a [u32],
+    curves: &'a CurveBook,
+    quantities: &'a [u128],
+}
+
+impl Claim<'_> {
+    /// The shadow price of a requirement.
+    fn shadow_price(&self, requirement: usize) -> u32
+        ensures { result ≡ slice_index self.now.shadow_prices.now requirement }
+    {
+        at_or(self.shadow_prices, requirement, 0)
     }
-}
 
-/// Whether the price and the target of a requirement are in range.
-fn is_in_range(shadow_prices: &[u32], targets: &[u32], k: usize) -> bool
-    ensures { result ≡ claim_in_range shadow_prices.now targets.now k }
-{
-    at_or(shadow_prices, k, 0) <= MOST_SHADOW_PRICE && at_or(targets, k, 0) <= MOST_TARGET
-}
+    /// The target of a requirement.
+    fn target(&self, requirement: usize) -> u32
+        ensures { result ≡ slice_index self.now.targets.now requirement }
+    {
+        at_or(self.targets, requirement, 0)
+    }
 
-/// The first requirement whose price or target is out of range is refused.
-fn check_ranges(shadow_prices: &[u32], targets: &[u32], requirements: usize) -> Result<(), Fault>
-    ensures { result ≡ every (claim_in_range shadow_prices.now targets.now) PriceOrTargetOutOfRange 0 requirements }
-{
-    for k in 0..requirements {
-        if !is_in_range(shadow_prices, targets, k) {
-            return Err(Fault::PriceOrTargetOutOfRange { requirement: k });
+    /// The quantity of a requirement.
+    fn quantity(&self, requirement: usize) -> u128
+        ensures { result ≡ slice_index self.now.quantities.now requirement }
+    {
+        at_or(self.quantities, requirement, 0)
+    }
+
+    /// Prices, targets and curves must each number the requirements.
+    fn check_counts(&self, requirements: usize) -> Result<(), Fault>
+        ensures { result ≡ counts_verdict requirements (length self.now.shadow_prices.now) (length self.now.targets.now) (length (curves_of self.now.curves.now)) }
+    {
+        let prices = self.shadow_prices.len();
+        let targets = self.targets.len();
+        let curves = self.curves.count();
+        if prices == requirements && targets == requirements && curves == requirements {
+            Ok(())
+        } else {
+            Err(Fault::RequirementCount { requirements })
         }
     }
-    Ok(())
-}
 
-/// Whether the price of a requirement is at most its curve's value.
-fn is_within_curve(
-    shadow_prices: &[u32],
-    targets: &[u32],
-    curves: &CurveBook,
-    quantities: &[u128],
-    k: usize,
-) -> bool
-    ensures { result ≡ within_curve shadow_prices.now targets.now (curves_of curves.now) (λ j. slice_index quantities.now j) k }
-{
-    let value = curves.value(k, at_or(targets, k, 0), at_or(quantities, k, 0));
-    at_or(shadow_prices, k, 0) <= value
-}
+    /// Whether the price and the target of a requirement are in range.
+    fn is_in_range(&self, requirement: usize) -> bool
+        ensures { result ≡ claim_in_range self.now.shadow_prices.now self.now.targets.now requirement }
+    {
+        self.shadow_price(requirement) <= MOST_SHADOW_PRICE
+            && self.target(requirement) <= MOST_TARGET
+    }
 
-/// The first requirement that is priced above its curve is refused.
-fn check_curves(
-    shadow_prices: &[u32],
-    targets: &[u32],
-    curves: &CurveBook,
-    quantities: &[u128],
-    requirements: usize,
-) -> Result<(), Fault>
-    ensures { result ≡ every (within_curve shadow_prices.now targets.now (curves_of curves.now) (λ j. slice_index quantities.now j)) AboveDemandCurve 0 requirements }
-{
-    for k in 0..requirements {
-        if !is_within_curve(shadow_prices, targets, curves, quantities, k) {
-            return Err(Fault::AboveDemandCurve { requirement: k });
+    /// Whether the price of a requirement is at most its curve's value.
+    fn is_within_curve(&self, requirement: usize) -> bool
+        ensures { result ≡ within_curve self.now.shadow_prices.now self.now.targets.now (curves_of self.now.curves.now) (λ j. slice_index self.now.quantities.now j) requirement }
+    {
+        let target = self.target(requirement);
+        let quantity = self.quantity(requirement);
+        let value = self.curves.value(requirement, target, quantity);
+        self.shadow_price(requirement) <= value
+    }
+
+    /// The first requirement whose price or target is out of range is refused.
+    fn check_ranges(&self, requirements: usize) -> Result<(), Fault>
+        ensures { result ≡ every (claim_in_range self.now.shadow_prices.now self.now.targets.now) PriceOrTargetOutOfRange 0 requirements }
+    {
+        match (0..requirements).find(|k| !self.is_in_range(*k)) {
+            Some(requirement) => Err(Fault::PriceOrTargetOutOfRange { requirement }),
+            None => Ok(()),
         }
     }
-    Ok(())
+
+    /// The first requirement that is priced above its curve is refused.
+    fn check_curves(&self, requirements: usize) -> Result<(), Fault>
+        ensures { result ≡ every (within_curve self.now.shadow_prices.now self.now.targets.now (curves_of self.now.curves.now) (λ j. slice_index self.now.quantities.now j)) AboveDemandCurve 0 requirements }
+    {
+        match (0..requirements).find(|k| !self.is_within_curve(*k)) {
+            Some(requirement) => Err(Fault::AboveDemandCurve { requirement }),
+            None => Ok(()),
+        }
+    }
 }
 
 /// Holds shadow prices to the demand curves, at the targets and quantities of their requirements. A
@@ -101,13 +119,14 @@ pub fn check_prices<M: LocationMap>(
     ensures reply { result ≡ price_verdict (M.LocationMap.market map.now) shadow_prices.now targets.now (curves_of curves.now) (λ k. slice_index quantities.now k) }
     ensures law { OnOk result (WithinCurves (M.LocationMap.market map.now) shadow_prices.now targets.now (curves_of curves.now) (λ k. slice_index quantities.now k)) }
 {
+    let claim = Claim {
+        shadow_prices,
+        targets,
+        curves,
+        quantities,
+    };
     let requirements = map.requirements();
-    check_counts(
-        requirements,
-        shadow_prices.len(),
-        targets.len(),
-        curves.count(),
-    )?;
-    check_ranges(shadow_prices, targets, requirements)?;
-    check_curves(shadow_prices, targets, curves, quantities, requirements)
+    claim.check_counts(requirements)?;
+    claim.check_ranges(requirements)?;
+    claim.check_curves(requirements)
 }

@@ -6,14 +6,14 @@ ghost use Rattle.maps.specs.Market.{Market};
 ghost use Rattle.market.specs.Laws.{BetterNeverCheaper, CostIsEarned};
 
 mod claims;
+mod per_product;
 mod prices;
 mod quantity;
-mod reserves;
 
 pub use crate::claims::{MOST_SHADOW_PRICE, MOST_TARGET, check_prices};
-pub use crate::prices::{ProductPrices, clearing_price, clearing_prices};
+pub use crate::per_product::{PerProduct, ProductPrices, Reserves};
+pub use crate::prices::{clearing_price, clearing_prices};
 pub use crate::quantity::{Placed, Scheduled, quantities};
-pub use crate::reserves::Reserves;
 use maps::LocationMap;
 
 /// At every location, under every map and all shadow prices, better reserve is priced no lower.

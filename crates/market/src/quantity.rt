@@ -2,12 +2,13 @@
 ghost use Rattle.std.specs.Prelude.{◌≡◌, ℕ, ◌+◌, ◌*◌, ◌^◌, ◌<◌, ◌≤◌, List, map as listed, length, sum_by, slice_index, slice_index_or};
 ghost use Rattle.sums.specs.Sums.{upto};
 ghost use Rattle.maps.specs.Market.{Market};
-ghost use Rattle.market.specs.declared.reserves.Reserves.{Reserves};
+ghost use Rattle.market.specs.Products.{Reserves};
 ghost use Rattle.market.specs.Prices.{quantity};
-ghost use Rattle.market.specs.Totals.{no_totals, added, AtMost, counted, Tallies};
+ghost use Rattle.market.specs.Totals.{Totals, no_totals, added, AtMost, counted, Tallies};
 
-use crate::Reserves;
+use crate::{PerProduct, Reserves};
 use maps::{LocationMap, Product};
+use std::array;
 
 /// Something at a location, such as a supplier's account.
 pub trait Placed {
@@ -26,12 +27,8 @@ pub trait Scheduled {
 }
 
 /// All tenths of each product at one location.
-#[derive(Clone, Copy)]
-struct Totals {
-    thirty: u128,
-    ten: u128,
-    spinning: u128,
-}
+// That no total is over 2^96 is asked of each function: a struct around the table, only for that, would be longer.
+type Totals = PerProduct<u128>;
 
 /// Adds reserves to the totals of their location; a location that no map has is left out.
 fn add(totals: &mut [Totals], location: usize, reserves: Reserves)
@@ -42,12 +39,10 @@ fn add(totals: &mut [Totals], location: usize, reserves: Reserves)
     ensures spinning { reserves.spinning ≤ 2 ^ 32 }
 {
     if location < totals.len() {
-        let old = totals[location];
-        totals[location] = Totals {
-            thirty: old.thirty + reserves.thirty as u128,
-            ten: old.ten + reserves.ten as u128,
-            spinning: old.spinning + reserves.spinning as u128,
-        };
+        let there = &mut totals[location];
+        there.thirty += reserves.thirty as u128;
+        there.ten += reserves.ten as u128;
+        there.spinning += reserves.spinning as u128;
     }
 }
 
@@ -55,40 +50,40 @@ fn add(totals: &mut [Totals], location: usize, reserves: Reserves)
 fn totals_of<P: Placed, R: Scheduled>(places: &[P], rows: &[R]) -> [Totals; 16]
     ensures { Tallies (listed P.Placed.place places.now) (listed R.Scheduled.scheduled rows.now) result }
 {
-    let mut totals = [Totals {
-        thirty: 0,
-        ten: 0,
-        spinning: 0,
-    }; 16];
-    let count = if places.len() < rows.len() {
-        places.len()
-    } else {
-        rows.len()
-    };
-    for i in 0..count {
-        add(&mut totals, places[i].location(), rows[i].reserves());
+    let mut totals = [Totals::default(); 16];
+    for (place, row) in places.iter().zip(rows) {
+        add(&mut totals, place.location(), row.reserves());
     }
     totals
 }
 
+/// The tenths at one location that count toward one requirement.
+fn counting_toward<M: LocationMap>(
+    map: &M,
+    requirement: usize,
+    location: usize,
+    there: &Totals,
+) -> u128
+    requires low { (there.now.thirty ≤ 2 ^ 96) × (there.now.ten ≤ 2 ^ 96) × (there.now.spinning ≤ 2 ^ 96) }
+    ensures { result ≡ counted (M.LocationMap.market map.now) requirement location there.now }
+{
+    let mut sum = 0;
+    for product in Product::ALL {
+        if map.counts(requirement, product, location) {
+            sum += there.of(product);
+        }
+    }
+    sum
+}
+
 /// The tenths that count toward one requirement.
-fn quantity_toward<M: LocationMap>(map: &M, totals: &[Totals], requirement: usize) -> u128
-    requires long { length totals.now ≡ 16 }
+fn quantity_toward<M: LocationMap>(map: &M, totals: &[Totals; 16], requirement: usize) -> u128
     requires low { AtMost (2 ^ 96) totals.now }
     ensures { result ≡ sum_by (λ l. counted (M.LocationMap.market map.now) requirement l (slice_index_or totals.now l no_totals)) (upto (M.LocationMap.market map.now).locations) }
 {
-    let mut sum = 0u128;
-    for l in 0..map.locations() {
-        let there = totals[l];
-        if map.counts(requirement, Product::ThirtyMinute, l) {
-            sum += there.thirty;
-        }
-        if map.counts(requirement, Product::TenMinute, l) {
-            sum += there.ten;
-        }
-        if map.counts(requirement, Product::Spinning, l) {
-            sum += there.spinning;
-        }
+    let mut sum = 0;
+    for (location, there) in totals[..map.locations()].iter().enumerate() {
+        sum += counting_toward(map, requirement, location, there);
     }
     sum
 }
@@ -104,9 +99,12 @@ pub fn quantities<M: LocationMap, P: Placed, R: Scheduled>(
     ensures bound { (k : ℕ) → slice_index result k ≤ 48 * (2 ^ 32 * length places.now) }
 {
     let totals = totals_of(places, rows);
-    let mut table = [0u128; 32];
-    for k in 0..map.requirements() {
-        table[k] = quantity_toward(map, &totals, k);
-    }
-    table
+    let requirements = map.requirements();
+    array::from_fn(|requirement| {
+        if requirement < requirements {
+            quantity_toward(map, &totals, requirement)
+        } else {
+            0
+        }
+    })
 }

@@ -29,9 +29,9 @@ module _ (ys : List Customer) (settled : ℕ) (rows : List WithdrawalRow) (few :
     all_shared =
         subst (λ (y : ℤ). SharedOut r y (nets rows) s) same (subst (λ (ws : List WithdrawalRow). SharedOut r z (map net ws) s) (take_all 256 rows few_rows) out)
 
-    pub closing_told : (xs : List Supplier) (v : Verdict Fault) (n : ℕ) → n ≡ length rows → accept ≡ scan_one settles AccountRange 0 xs → v ≡ scan chargeable AccountRange 0 ys (take n s.cents)
+    pub closing_told : (xs : List Supplier) (v : Verdict Fault) (cents : List ℤ) → cents ≡ s.cents.items → accept ≡ scan_one settles AccountRange 0 xs → v ≡ scan chargeable AccountRange 0 ys cents
         → v ≡ closing_verdict r xs ys settled grains rows
-    closing_told xs v n l a e =
+    closing_told xs v cents listed a e =
         let charged : Verdict Fault = charging_verdict ys (shared r grains (nets rows)) in
-        let due : take n s.cents ≡ shared r grains (nets rows) = ap (λ (k : ℕ). take k s.cents) (l ∙ sym (length-map rows net)) ∙ all_shared.value in
+        let due : cents ≡ shared r grains (nets rows) = listed ∙ all_shared.value in
         next (withdrawal_verdict ys settled rows) (settling_verdict xs then charged) v taken (next (settling_verdict xs) charged v a (e ∙ ap (λ (zs : List ℤ). scan chargeable AccountRange 0 ys zs) due))

@@ -1,5 +1,5 @@
 -- From tables to the rules of a clearing and an interval.
-use Rattle.std.proofs.Common.{◌≡◌, ℕ, ◌+◌, ◌*◌, ◌≤◌, true, false, List, length, get_or, ℤ, pos, ◌-ℤ◌, ◌*ℤ◌, nat_abs, sum_by, sym, refl, ap, ◌∙◌, subst, arith}
+use Rattle.std.proofs.Common.{◌≡◌, ℕ, ◌*◌, ◌≤◌, List, length, get_or, ℤ, pos, ◌-ℤ◌, ◌*ℤ◌, nat_abs, sum_by, sym, refl, ap, ◌∙◌, subst, arith}
 use mathlib.Core.Path.{fun_ext}
 use lib.ListN.{length-map}
 use borrow.Author.Differences.{ints}
@@ -12,32 +12,33 @@ use Rattle.sums.proofs.SumLaws.{sum_ext, pos_sum}
 use Rattle.sums.proofs.Verdicts.{both, wanted, pass}
 use Rattle.maps.specs.Market.{Market, MapLaw}
 use Rattle.curves.specs.declared.step.Step.{Step}
-use Rattle.market.specs.declared.prices.ProductPrices.{ProductPrices}
-use Rattle.market.specs.declared.reserves.Reserves.{Reserves}
+use Rattle.market.specs.Products.{ProductPrices, Reserves}
 use Rattle.market.specs.Prices.{quantity, cost}
 use Rattle.market.specs.Tables.{no_prices, prices_at_lem}
 use Rattle.market.specs.Claims.{counts_verdict, price_verdict}
 use Rattle.market.proofs.Costs.{cost_differs}
 use Rattle.accounts.specs.declared.posting.Terms.{Terms}
+use Rattle.accounts.specs.declared.posting.Timing.{Timing}
+use Rattle.accounts.specs.declared.posting.Timing.TheVariants.{DayAhead, RealTime}
 use Rattle.accounts.specs.declared.schedule.ScheduleRow.{ScheduleRow}
 use Rattle.accounts.specs.declared.supplier.Supplier.{Supplier}
-use Rattle.accounts.specs.Posting.{post_clearing, post_interval, stays}
+use Rattle.accounts.specs.Posting.{stays}
 use Rattle.accounts.specs.Terms.{post_by}
 use Rattle.accounts.proofs.Posts.{terms_keep_rule}
 use Rattle.books.proofs.Accepted.{posts_alike}
 use Rattle.law.specs.Ledger.{hour_seconds, places, aheads, schedules}
 use Rattle.books.specs.Sheets.{sheet_verdict}
-use Rattle.law.specs.Verdicts.{capability_verdict, schedule_verdict, posting_verdict, clearing_verdict, seconds_verdict, interval_verdict}
+use Rattle.law.specs.Verdicts.{capability_verdict, schedule_verdict, posting_verdict, seconds_verdict}
 use Rattle.law.proofs.Accepted.{row_most, ScheduleTaken, clearing_accepted, interval_accepted}
 use Rattle.law.proofs.Bounds.{Small, cost_most}
-use Rattle.planning.specs.Plans.{most_cost, cost_at, Weighed, PlannedClearing, PlannedInterval}
+use Rattle.planning.specs.Plans.{most_cost, cost_at, Weighed, Planned, post_at, paid_already, cost_in_second}
 
 -- one check more, after one that accepted
 pub next : (v w x : Verdict Fault) → accept ≡ v → x ≡ w → x ≡ (v then w)
 next v w x e h = h ∙ sym (pass v w (sym e))
 
 -- a table of quantities costs what the requirements cost
-cost_is : (m : Market) (shadow ls : List ℕ) (rs : List Reserves) (qs : List ℕ) (n : ℕ) → length shadow ≡ m.requirements → ((k : ℕ) → get_or qs k 0 ≡ quantity m ls rs k)
+pub cost_is : (m : Market) (shadow ls : List ℕ) (rs : List Reserves) (qs : List ℕ) (n : ℕ) → length shadow ≡ m.requirements → ((k : ℕ) → get_or qs k 0 ≡ quantity m ls rs k)
     → n ≡ cost_at shadow qs → pos n ≡ cost m shadow ls rs
 cost_is m shadow ls rs qs n l e f =
     ap pos f
@@ -81,86 +82,66 @@ module _ (m : Market) (xs : List Supplier) (shadow targets : List ℕ) (curves :
         let f : length (places xs) ≤ 128 = rw length-map few in
         subst (λ (z : ℤ). nat_abs z ≤ most_cost) (sym is) (cost_most m shadow (places xs) 32 100000 128 row_most law.few_requirements taken.priced f rs h)
 
+  -- what the schedule costs less what is paid already
+  beyond_paid : (timing : Timing) → cost m shadow (places xs) (schedules rows) -ℤ paid_already m xs shadow timing ≡ cost_in_second m xs shadow rows timing
+  beyond_paid DayAhead = omega (arith, ints)
+  beyond_paid RealTime = sym (cost_differs m shadow (places xs) (schedules rows) (aheads xs))
+
+  paid_small : (timing : Timing) (p : ℕ) → pos p ≡ paid_already m xs shadow timing → MapLaw m → length xs ≤ 128 → Taken → p ≤ most_cost
+  paid_small DayAhead p is law few taken = omega (arith, ints)
+  paid_small RealTime p is law few taken = small (aheads xs) p is law few taken taken.small_ahead
+
+  -- a schedule that is accepted with its posting, whatever it is paid for
+  accepted_for : (settled seconds : ℕ) (timing : Timing) → accept ≡ schedule → accept ≡ seconds_verdict settled seconds → accept ≡ posting_verdict (post_at m shadow seconds timing) xs rows → Taken
+  accepted_for settled seconds DayAhead s t e = clearing_accepted m xs shadow targets curves rows (sym (next schedule _ accept s e))
+  accepted_for settled seconds RealTime s t e =
+      (interval_accepted m xs settled seconds shadow targets curves rows (sym (next schedule _ accept s (next (seconds_verdict settled seconds) _ accept t e)))).0
+
   -- ---- the accounts xs are those of the book, ys, and the schedule is accepted
-  module _ (ys : List Supplier) (enrolled : xs ≡ ys) (table : List ProductPrices) (priced : (l : ℕ) → get_or table l no_prices ≡ prices_at_lem m shadow l) (checked : accept ≡ schedule) where
-    -- ---- a clearing
-    abbrev whole_hour : Terms
-    whole_hour = record { prices = table; seconds = 3600; ahead = true }
+  module _ (ys : List Supplier) (enrolled : xs ≡ ys) (table : List ProductPrices) (priced : (l : ℕ) → get_or table l no_prices ≡ prices_at_lem m shadow l) (checked : accept ≡ schedule) (settled seconds : ℕ) where
+    abbrev terms : Timing → Terms
+    terms timing = record { prices = table; seconds = seconds; timing = timing }
 
-    abbrev hour_check : Verdict Fault
-    hour_check = scan (stays (post_by whole_hour)) AccountRange 0 xs rows
+    abbrev rule : Timing → Supplier → Reserves → Supplier
+    rule timing = post_at m shadow seconds timing
 
-    clears : (a : Supplier) (r : Reserves) → post_by whole_hour a r ≡ post_clearing m shadow a r
-    clears = (terms_keep_rule m shadow whole_hour priced).clearing refl refl
+    posts_by : (timing : Timing) → (timing ≡ DayAhead → seconds ≡ hour_seconds) → (a : Supplier) (r : Reserves) → post_by (terms timing) a r ≡ rule timing a r
+    posts_by DayAhead hour = (terms_keep_rule m shadow (terms DayAhead) priced).clearing refl (hour refl)
+    posts_by RealTime hour = (terms_keep_rule m shadow (terms RealTime) priced).interval refl
 
-    told_clearing : (v : Verdict Fault) → v ≡ hour_check → v ≡ clearing_verdict m xs shadow targets curves rows
-    told_clearing v e = next schedule (posting_verdict (post_clearing m shadow) xs rows) v checked (e ∙ posts_alike whole_hour (post_clearing m shadow) clears 0 xs rows)
-
-    pub clearing_told : (v : Verdict Fault) → v ≡ hour_check → v ≡ clearing_verdict m ys shadow targets curves rows
-    clearing_told v e = told_clearing v e ∙ ap (λ (zs : List Supplier). clearing_verdict m zs shadow targets curves rows) enrolled
-
-    module _ (qs : List ℕ) (weighed : Weighed m xs shadow rows qs) (n : ℕ) (costs : n ≡ cost_at shadow qs) where
-      is_real : pos n ≡ cost m shadow (places xs) (schedules rows)
-      is_real = cost_is m shadow (places xs) (schedules rows) qs n weighed.priced weighed.value costs
-
-      pub clearing_small : MapLaw m → length xs ≤ 128 → accept ≡ hour_check → n ≤ most_cost
-      clearing_small law few e =
-          let taken = clearing_accepted m xs shadow targets curves rows (sym (told_clearing accept e)) in
-          small (schedules rows) n is_real law few taken taken.small
-
-      pub clearing_planned : (z : ℤ) → z ≡ (pos n -ℤ pos 0) *ℤ pos 3600 → nat_abs z ≤ most_cost * 3600
-          → PlannedClearing m ys shadow rows (record { terms = whole_hour; cost = z })
-      clearing_planned z e b =
-          let d : pos n -ℤ pos 0 ≡ pos n = omega (arith, ints) in
-          subst (λ (zs : List Supplier). PlannedClearing m zs shadow rows (record { terms = whole_hour; cost = z })) enrolled (record {
-            posts = clears;
-            cost = e ∙ ap (λ (y : ℤ). y *ℤ pos 3600) (d ∙ is_real);
-            bound = b;
-          })
-
-    -- ---- an interval
-    module _ (settled seconds : ℕ) where
-      abbrev some_seconds : Terms
-      some_seconds = record { prices = table; seconds = seconds; ahead = false }
-
-      abbrev interval_check : Verdict Fault
-      interval_check = scan (stays (post_by some_seconds)) AccountRange 0 xs rows
+    module _ (timing : Timing) (hour : timing ≡ DayAhead → seconds ≡ hour_seconds) where
+      abbrev post_check : Verdict Fault
+      post_check = scan (stays (post_by (terms timing))) AccountRange 0 xs rows
 
       abbrev time_check : Verdict Fault
       time_check = seconds_verdict settled seconds
 
-      spans : (a : Supplier) (r : Reserves) → post_by some_seconds a r ≡ post_interval m shadow seconds a r
-      spans = (terms_keep_rule m shadow some_seconds priced).interval refl
+      posted : (v : Verdict Fault) → v ≡ post_check → v ≡ posting_verdict (rule timing) xs rows
+      posted v e = e ∙ posts_alike (terms timing) (rule timing) (posts_by timing hour) 0 xs rows
 
-      told_interval : (v : Verdict Fault) → accept ≡ time_check → v ≡ interval_check → v ≡ interval_verdict m xs settled seconds shadow targets curves rows
-      told_interval v t e =
-          let posted : Verdict Fault = posting_verdict (post_interval m shadow seconds) xs rows in
-          next schedule (time_check then posted) v checked (next time_check posted v t (e ∙ posts_alike some_seconds (post_interval m shadow seconds) spans 0 xs rows))
+      pub planned_told : (v : Verdict Fault) → accept ≡ time_check → v ≡ post_check → v ≡ (schedule_verdict m ys shadow targets curves rows then time_check then posting_verdict (rule timing) ys rows)
+      planned_told v t e =
+          next schedule (time_check then posting_verdict (rule timing) xs rows) v checked (next time_check (posting_verdict (rule timing) xs rows) v t (posted v e))
+          ∙ ap (λ (zs : List Supplier). schedule_verdict m zs shadow targets curves rows then time_check then posting_verdict (rule timing) zs rows) enrolled
 
-      pub interval_told : (v : Verdict Fault) → accept ≡ time_check → v ≡ interval_check → v ≡ interval_verdict m ys settled seconds shadow targets curves rows
-      interval_told v t e = told_interval v t e ∙ ap (λ (zs : List Supplier). interval_verdict m zs settled seconds shadow targets curves rows) enrolled
+      module _ (qs : List ℕ) (weighed : Weighed m xs shadow rows qs) (n : ℕ) (costs : n ≡ cost_at shadow qs) (p : ℕ) (paid : pos p ≡ paid_already m xs shadow timing) where
+        is_real : pos n ≡ cost m shadow (places xs) (schedules rows)
+        is_real = cost_is m shadow (places xs) (schedules rows) qs n weighed.priced weighed.value costs
 
-      module _ (qs : List ℕ) (weighed : Weighed m xs shadow rows qs) (n : ℕ) (costs : n ≡ cost_at shadow qs) (ahead : List ℕ) (tabled : (k : ℕ) → get_or ahead k 0 ≡ quantity m (places xs) (aheads xs) k) (p : ℕ) (paid : p ≡ cost_at shadow ahead) where
-        is_ahead : pos p ≡ cost m shadow (places xs) (aheads xs)
-        is_ahead = cost_is m shadow (places xs) (aheads xs) ahead p weighed.priced tabled paid
+        pub planned_small : MapLaw m → length xs ≤ 128 → accept ≡ time_check → accept ≡ post_check → (n ≤ most_cost) × (p ≤ most_cost)
+        planned_small law few t e =
+            let taken = accepted_for settled seconds timing checked t (posted accept e) in
+            (small (schedules rows) n is_real law few taken taken.small, paid_small timing p paid law few taken)
 
-        pub interval_small : MapLaw m → length xs ≤ 128 → accept ≡ time_check → accept ≡ interval_check → (n ≤ most_cost) × (p ≤ most_cost) × (settled + seconds ≤ hour_seconds)
-        interval_small law few t e =
-            let taken = interval_accepted m xs settled seconds shadow targets curves rows (sym (told_interval accept t e)) in (
-              small (schedules rows) n (is_real qs weighed n costs) law few taken.0 taken.0.small,
-              small (aheads xs) p is_ahead law few taken.0 taken.0.small_ahead,
-              taken.1,
-            )
-
-        pub interval_planned : (z : ℤ) → z ≡ (pos n -ℤ pos p) *ℤ pos seconds → nat_abs z ≤ most_cost * seconds
-            → PlannedInterval m ys seconds shadow rows (record { terms = some_seconds; cost = z })
-        interval_planned z e b =
-            subst (λ (zs : List Supplier). PlannedInterval m zs seconds shadow rows (record { terms = some_seconds; cost = z })) enrolled (record {
-              posts = spans;
-              cost =
-                  e
-                  ∙ ap (λ (y : ℤ). (y -ℤ pos p) *ℤ pos seconds) (is_real qs weighed n costs)
-                  ∙ ap (λ (y : ℤ). (cost m shadow (places xs) (schedules rows) -ℤ y) *ℤ pos seconds) is_ahead
-                  ∙ ap (λ (y : ℤ). y *ℤ pos seconds) (sym (cost_differs m shadow (places xs) (schedules rows) (aheads xs)));
-              bound = b;
-            })
+        pub plan_holds : (z : ℤ) → z ≡ (pos n -ℤ pos p) *ℤ pos seconds → nat_abs z ≤ most_cost * seconds
+            → Planned (rule timing) (cost_in_second m ys shadow rows timing) seconds (record { terms = terms timing; cost = z })
+        plan_holds z e b = record {
+          posts = posts_by timing hour;
+          cost =
+              e
+              ∙ ap (λ (y : ℤ). (y -ℤ pos p) *ℤ pos seconds) is_real
+              ∙ ap (λ (y : ℤ). (cost m shadow (places xs) (schedules rows) -ℤ y) *ℤ pos seconds) paid
+              ∙ ap (λ (y : ℤ). y *ℤ pos seconds) (beyond_paid timing)
+              ∙ ap (λ (zs : List Supplier). cost_in_second m zs shadow rows timing *ℤ pos seconds) enrolled;
+          bound = b;
+        }

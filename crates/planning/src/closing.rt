@@ -45,16 +45,13 @@ fn net_of(row: WithdrawalRow) -> u64
     row.net()
 }
 
-/// All net withdrawals together.
+/// All net withdrawals together. `total_of` does not tell that 64 bits are enough: only a row that is
+/// read shows how small it is.
 fn total_net(rows: &[WithdrawalRow]) -> u64
     requires { length rows.now ≤ 256 }
     ensures { result ≡ sum (nets rows.now) }
 {
-    let mut total = 0u64;
-    for row in rows {
-        total += net_of(*row);
-    }
-    total
+    rows.iter().map(|row| net_of(*row)).sum()
 }
 
 /// Checks the sheet of withdrawals.
@@ -89,6 +86,6 @@ pub fn plan_closing<S: SharingRule>(
     check_withdrawals(charged, rows, settled)?;
     check_settle(paid)?;
     let shares = share_out::<S, WithdrawalRow>(grains, rows);
-    check_charge(charged, &shares.cents[0..rows.len()])?;
+    check_charge(charged, shares.cents.as_slice())?;
     Ok(shares)
 }

@@ -9,11 +9,11 @@ pub(crate) fn cost_of(shadow_prices: &[u32], quantities: &[u128]) -> u128
     requires low { (k : ℕ) → slice_index quantities.now k ≤ 2 ^ 64 }
     ensures { result ≡ cost_at shadow_prices.now quantities.now }
 {
-    let mut cost = 0u128;
-    for k in 0..shadow_prices.len() {
-        cost += shadow_prices[k] as u128 * quantities[k];
-    }
-    cost
+    shadow_prices
+        .iter()
+        .zip(quantities)
+        .map(|(price, quantity)| *price as u128 * *quantity)
+        .sum()
 }
 
 /// By how much real time costs more than what is paid already, over the seconds.

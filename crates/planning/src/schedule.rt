@@ -5,7 +5,7 @@ ghost use Rattle.curves.specs.Book.{curves_of};
 ghost use Rattle.law.specs.Verdicts.{schedule_verdict, seconds_verdict};
 ghost use Rattle.planning.specs.Plans.{Weighed};
 
-use accounts::{ScheduleRow, Supplier};
+use accounts::{ScheduleSheet, Supplier};
 use books::{check_capability, check_sheet};
 use curves::CurveBook;
 use faults::Fault;
@@ -20,18 +20,16 @@ pub(crate) const HOUR_SECONDS: u32 = 3_600;
 pub(crate) fn check_schedule<M: LocationMap>(
     map: &M,
     accounts: &[Supplier],
-    shadow_prices: &[u32],
-    targets: &[u32],
     curves: &CurveBook,
-    rows: &[ScheduleRow],
+    sheet: ScheduleSheet<'_>,
 ) -> Result<[u128; 32], Fault>
-    ensures reply { told result ≡ schedule_verdict (M.LocationMap.market map.now) accounts.now shadow_prices.now targets.now (curves_of curves.now) rows.now }
-    ensures holds { IfOk result (λ qs. Weighed (M.LocationMap.market map.now) accounts.now shadow_prices.now rows.now qs) }
+    ensures reply { told result ≡ schedule_verdict (M.LocationMap.market map.now) accounts.now sheet.entry.shadow_prices.now sheet.entry.targets.now (curves_of curves.now) sheet.entry.rows.now }
+    ensures holds { IfOk result (λ qs. Weighed (M.LocationMap.market map.now) accounts.now sheet.entry.shadow_prices.now sheet.entry.rows.now qs) }
 {
-    check_sheet(accounts, rows)?;
-    check_capability(accounts, rows)?;
-    let scheduled = quantities(map, accounts, rows);
-    check_prices(map, shadow_prices, targets, curves, &scheduled)?;
+    check_sheet(accounts, sheet.rows)?;
+    check_capability(accounts, sheet.rows)?;
+    let scheduled = quantities(map, accounts, sheet.rows);
+    check_prices(map, sheet.shadow_prices, sheet.targets, curves, &scheduled)?;
     Ok(scheduled)
 }
 

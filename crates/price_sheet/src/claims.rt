@@ -3,39 +3,62 @@ use crate::problem::Problem;
 use curves::CurveBook;
 use faults::Fault;
 use maps::{FixedMap, LocationMap};
+use std::alloc::{AllocError, Global};
+use std::str::FromStr;
 
 /// One requirement's claim: its shadow price at a target and a quantity.
 #[derive(Clone, Copy)]
-struct Claim {
-    price: u32,
-    target: u32,
-    quantity: u64,
+pub(crate) struct Claim {
+    pub price: u32,
+    pub target: u32,
+    pub quantity: u64,
 }
 
-/// The claims in the order of the requirements, and the line of the input that each stands on.
-#[derive(Drop)]
-pub struct Claims {
-    pub prices: Vec<u32>,
-    pub targets: Vec<u32>,
-    pub quantities: Vec<u128>,
-    lines: Vec<usize>,
-}
+/// A line that is not three whole numbers.
+#[derive(Clone, Copy)]
+pub(crate) struct NotAClaim;
 
-/// The claim that a line makes, if it is three whole numbers.
-fn parse_claim(line: &str) -> Option<Claim> {
-    let mut words = line.split_whitespace();
-    let price = words.next()?.parse::<u32>().ok()?;
-    let target = words.next()?.parse::<u32>().ok()?;
-    let quantity = words.next()?.parse::<u64>().ok()?;
-    if words.next().is_some() {
-        return None;
+impl FromStr for Claim {
+    type Err = NotAClaim;
+
+    fn from_str(line: &str) -> Result<Claim, NotAClaim> {
+        let mut words = line.split_whitespace();
+        let price = words
+            .next()
+            .ok_or(NotAClaim)?
+            .parse::<u32>()
+            .map_err(|_| NotAClaim)?;
+        let target = words
+            .next()
+            .ok_or(NotAClaim)?
+            .parse::<u32>()
+            .map_err(|_| NotAClaim)?;
+        let quantity = words
+            .next()
+            .ok_or(NotAClaim)?
+            .parse::<u64>()
+            .map_err(|_| NotAClaim)?;
+        match words.next() {
+            None => Ok(Claim {
+                price,
+                target,
+                quantity,
+            }),
+            Some(_) => Err(NotAClaim),
+        }
     }
-    Some(Claim {
-        price,
-        target,
-        quantity,
-    })
 }
+
+/// A claim, and the line of the input that it stands on.
+#[derive(Clone, Copy)]
+struct Placed {
+    line: usize,
+    claim: Claim,
+}
+
+/// The claims in the order of the requirements.
+#[derive(Drop)]
+pub struct Claims(Vec<Placed>);
 
 /// Whether a line says nothing: it is blank, or a remark.
 fn is_silent(line: &str) -> bool {
@@ -45,33 +68,46 @@ fn is_silent(line: &str) -> bool {
 
 impl Claims {
     fn add(&mut self, line: usize, claim: Claim) -> Result<(), Problem> {
-        if self.prices.len() >= FixedMap.requirements() {
+        if self.0.len() >= FixedMap.requirements() {
             return Err(Problem::TooMany(line));
         }
-        self.prices.push(claim.price)?;
-        self.targets.push(claim.target)?;
-        self.quantities.push(claim.quantity as u128)?;
-        self.lines.push(line)?;
+        self.0.push(Placed { line, claim })?;
         Ok(())
+    }
+
+    /// One number of each claim.
+    pub(crate) fn column<T: Drop, F: Fn(&Claim) -> T>(
+        &self,
+        heap: Global,
+        number: F,
+    ) -> Result<Vec<T>, AllocError>
+        requires { F.IsAlwaysCallable number }
+    {
+        self.0
+            .iter()
+            .map(|placed| number(&placed.claim))
+            .collect(heap)
     }
 
     /// The refusal, with the line that is to blame where there is one.
     pub fn blame(&self, fault: Fault, curves: &CurveBook) -> Problem {
         match fault {
-            Fault::PriceOrTargetOutOfRange { requirement } => Problem::OutOfRange {
-                line: self.lines.get(requirement).copied().unwrap_or(0),
-                requirement,
-            },
-            Fault::AboveDemandCurve { requirement } => {
-                let target = self.targets.get(requirement).copied().unwrap_or(0);
-                let quantity = self.quantities.get(requirement).copied().unwrap_or(0);
-                Problem::Above {
-                    line: self.lines.get(requirement).copied().unwrap_or(0),
+            Fault::PriceOrTargetOutOfRange { requirement } => match self.0.get(requirement) {
+                Some(placed) => Problem::OutOfRange {
+                    line: placed.line,
                     requirement,
-                    claimed: self.prices.get(requirement).copied().unwrap_or(0),
-                    allowed: curves.value(requirement, target, quantity),
-                }
-            }
+                },
+                None => Problem::Refused(fault),
+            },
+            Fault::AboveDemandCurve { requirement } => match self.0.get(requirement) {
+                Some(Placed { line, claim }) => Problem::Above {
+                    line: *line,
+                    requirement,
+                    claimed: claim.price,
+                    allowed: curves.value(requirement, claim.target, u128::from(claim.quantity)),
+                },
+                None => Problem::Refused(fault),
+            },
             other => Problem::Refused(other),
         }
     }
@@ -80,22 +116,15 @@ impl Claims {
 /// Reads the claims from standard input; the first line that is none is refused.
 pub fn read_claims(rt: &HostRuntime) -> Result<Claims, Problem> {
     let heap = rt.alloc();
-    let mut claims = Claims {
-        prices: Vec::new(heap),
-        targets: Vec::new(heap),
-        quantities: Vec::new(heap),
-        lines: Vec::new(heap),
-    };
-    let mut number = 0usize;
-    for line in rt.lines(heap) {
-        let text = line?;
-        number = number.saturating_add(1);
+    let mut claims = Claims(Vec::new(heap));
+    for (line, text) in (1usize..).zip(rt.lines(heap)) {
+        let text = text?;
         if is_silent(text.as_str()) {
             continue;
         }
-        match parse_claim(text.as_str()) {
-            Some(claim) => claims.add(number, claim)?,
-            None => return Err(Problem::Line(number)),
+        match text.as_str().parse::<Claim>() {
+            Ok(claim) => claims.add(line, claim)?,
+            Err(NotAClaim) => return Err(Problem::Line(line)),
         }
     }
     Ok(claims)

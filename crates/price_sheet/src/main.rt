@@ -45,26 +45,26 @@ fn price_all(
 fn read_curves(rt: &HostRuntime) -> Result<CurveBook, Problem> {
     let bytes = fs::read(rt, "curves.bin")?;
     let mut book = CurveBook::blank();
-    match read_curve_book(bytes.as_slice(), &mut book) {
-        Ok(()) => Ok(book),
-        Err(fault) => Err(Problem::Refused(fault)),
-    }
+    read_curve_book(bytes.as_slice(), &mut book)?;
+    Ok(book)
 }
 
 /// The text to print, so that nothing is printed before all is known.
 fn run(rt: &HostRuntime) -> Result<String, Problem> {
+    let heap = rt.alloc();
     let curves = read_curves(rt)?;
     let claims = read_claims(rt)?;
+    let prices = claims.column(heap, |claim| claim.price)?;
+    let targets = claims.column(heap, |claim| claim.target)?;
+    let quantities = claims.column(heap, |claim| u128::from(claim.quantity))?;
     let priced = price_all(
-        claims.prices.as_slice(),
-        claims.targets.as_slice(),
-        claims.quantities.as_slice(),
+        prices.as_slice(),
+        targets.as_slice(),
+        quantities.as_slice(),
         &curves,
-    );
-    match priced {
-        Ok(prices) => Ok(table_text(rt.alloc(), &prices)?),
-        Err(fault) => Err(claims.blame(fault, &curves)),
-    }
+    )
+    .map_err(|fault| claims.blame(fault, &curves))?;
+    Ok(table_text(heap, &priced)?)
 }
 
 fn main(rt: HostRuntime) -> ExitCode {

@@ -31,6 +31,12 @@ pub enum Problem {
     NoMemory,
 }
 
+impl From<Fault> for Problem {
+    fn from(fault: Fault) -> Problem {
+        Problem::Refused(fault)
+    }
+}
+
 impl From<io::Error> for Problem {
     fn from(e: io::Error) -> Problem {
         Problem::Io(e)

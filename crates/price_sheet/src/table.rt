@@ -9,9 +9,7 @@ const LOCATIONS: [&str; 5] = ["West", "East", "Southeast", "New York City", "Lon
 pub fn table_text(heap: Global, prices: &[ProductPrices; 16]) -> Result<String, AllocError> {
     let mut text = String::from_str(heap, "Clearing prices in cents per MW and hour\n")?;
     text.push_str("location       thirty-minute    ten-minute      spinning\n")?;
-    for l in 0..5 {
-        let name = LOCATIONS[l];
-        let row = prices[l];
+    for (name, row) in LOCATIONS.iter().zip(prices) {
         let thirty = row.thirty;
         let ten = row.ten;
         let spinning = row.spinning;

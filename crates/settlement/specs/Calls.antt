@@ -9,7 +9,7 @@ abbrev pub asked : List (List Step) → Call → Args
 asked curves (EnrolSupplier new) = enrol_supplier new.number new.location new.kind new.upper new.response
 asked curves (EnrolCustomer number) = enrol_customer number
 asked curves (Open hour) = open_hour hour
-asked curves (Clear shadow targets rows) = clear shadow.now targets.now curves rows.now
-asked curves (Interval seconds shadow targets rows) = interval seconds shadow.now targets.now curves rows.now
+asked curves (Clear sheet) = clear sheet.shadow_prices.now sheet.targets.now curves sheet.rows.now
+asked curves (Interval seconds sheet) = interval seconds sheet.shadow_prices.now sheet.targets.now curves sheet.rows.now
 asked curves (Close rows) = close rows.now
 asked curves Void = void

@@ -1,18 +1,18 @@
 //! What a ledger and its books can be asked to do.
-use accounts::{NewSupplier, ScheduleRow, WithdrawalRow};
+use accounts::{NewSupplier, ScheduleSheet, WithdrawalRow};
 
 pub mod step;
 
-/// A call with its arguments. The curve book comes beside it.
+/// A call with its arguments. The curve book is the house's.
 #[derive(Clone, Copy)]
 pub enum Call<'a> {
     EnrolSupplier(NewSupplier),
     EnrolCustomer(u32),
     Open(u32),
-    /// Shadow prices, targets, and the day-ahead sheet.
-    Clear(&'a [u32], &'a [u32], &'a [ScheduleRow]),
-    /// Seconds, shadow prices, targets, and the real-time sheet.
-    Interval(u32, &'a [u32], &'a [u32], &'a [ScheduleRow]),
+    /// The day-ahead sheet.
+    Clear(ScheduleSheet<'a>),
+    /// Seconds, and the real-time sheet.
+    Interval(u32, ScheduleSheet<'a>),
     Close(&'a [WithdrawalRow]),
     Void,
 }

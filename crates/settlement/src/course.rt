@@ -1,7 +1,6 @@
 //! A ledger at any of its stages.
 use ledger::{Cleared, Opened, Rest};
 
-pub mod calls;
 pub mod showing;
 
 /// A ledger at any stage. An hour in hand cannot be let go, so neither can this.

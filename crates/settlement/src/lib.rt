@@ -6,7 +6,9 @@
 
 mod call;
 mod course;
+mod house;
 
 pub use crate::call::Call;
 pub use crate::call::step::step;
 pub use crate::course::Ledger;
+pub use crate::house::House;

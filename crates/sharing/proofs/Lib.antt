@@ -1,6 +1,6 @@
 pub mod Ranges
 pub mod Totals
 pub mod Law
-pub mod Padded
+pub mod InOrder
 pub mod Made
 pub mod Extremes

@@ -2,7 +2,7 @@
 ghost use Rattle.std.specs.Prelude.{◌≡◌};
 ghost use Rattle.sharing.specs.Shares.{whole, rest};
 
-/// A grain is a cent divided by this.
+/// A grain is a cent divided by this: one cent per MW and hour, times a tenth of a MW, times one second.
 pub const GRAINS_PER_CENT: i64 = 36_000;
 
 /// The whole cents of so many grains, rounded toward minus infinity.

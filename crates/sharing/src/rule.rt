@@ -16,6 +16,7 @@ pub trait SharingRule {
     ghost share: { ℤ → ℕ → ℕ → ℕ → ℤ };
 
     /// The share of `part`, in whole cents; 0 outside the ranges.
+    // Four numbers, as in the definition of a rule: a struct would be made for each part and taken apart at once.
     fn share_of(cents: i64, before: u64, part: u64, total: u64) -> i64
         ensures { result ≡ share cents before part total };
 

@@ -11,6 +11,7 @@ use crate::rule::{is_shareable, rounded_down};
 #[derive(Clone, Copy)]
 pub struct RunningRule;
 
+// As the down rule it shares inside the ranges alone: each is proved by its own definition, the test in it.
 impl SharingRule for RunningRule {
     ghost share = { running };
 

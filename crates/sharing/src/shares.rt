@@ -6,19 +6,20 @@ use crate::carry::carry_of;
 use crate::grains::whole_cents;
 use crate::table::shares_of;
 use crate::{Portion, SharingRule};
+use bounded::Bounded;
 
 /// The most parts that are shared among.
 pub const MOST_SHARES: usize = 256;
 
 /// The shares of parts in their order, in whole cents, and the grains that are carried on.
-#[derive(Clone, Copy)]
+#[derive(Clone, Copy, PartialEq, Eq, Debug)]
 pub struct Shares {
-    pub cents: [i64; MOST_SHARES],
+    pub cents: Bounded<i64, MOST_SHARES>,
     pub carry: i64,
 }
 
 /// Shares the whole cents of `grains` among the first 256 parts by the rule `S`, and carries on the
-/// grains that are left. Further parts are not looked at; past the last part the shares are 0.
+/// grains that are left. Further parts are not looked at.
 pub fn share_out<S: SharingRule, P: Portion>(grains: i64, parts: &[P]) -> Shares
     ensures { SharedOut S.SharingRule.share grains (listed P.Portion.portion (take most_shares parts.now)) result }
 {
@@ -39,6 +40,6 @@ fn share_among<S: SharingRule, P: Portion>(grains: i64, parts: &[P]) -> Shares
     ensures { SharedOut S.SharingRule.share grains (listed P.Portion.portion parts.now) result }
 {
     let cents = shares_of::<S, P>(whole_cents(grains), parts);
-    let carry = carry_of(grains, &cents) as i64;
+    let carry = carry_of(grains, cents.as_slice()) as i64;
     Shares { cents, carry }
 }

@@ -1,11 +1,16 @@
 //! The curve book file, and the line of one that is refused.
-ghost use Rattle.std.specs.Prelude.{◌≡◌, ◌≤◌, length, take, IfOk};
+ghost use Rattle.std.specs.Prelude.{◌≡◌, ◌≤◌, length, IfOk};
+ghost use Rattle.curves.specs.Book.{curves_of};
+ghost use Rattle.faults.specs.Told.{told_of};
+ghost use Rattle.feed.specs.CurveFile.{file_curves};
 ghost use Rattle.lines.specs.Texts.{text};
 ghost use Rattle.lines.specs.declared.line.Line.TheVariants.{Refused as refusal};
+ghost use Rattle.statement.specs.Refusals.{RefusedBy};
 
 use crate::problem::Problem;
 use crate::streams::read_some;
 use curves::CurveBook;
+use faults::Fault;
 use feed::read_curve_book;
 use lines::{Line, write_line};
 use std::io::Write;
@@ -14,7 +19,11 @@ use std::{fs, io};
 /// One byte more than the longest file that can be accepted: a longer file is refused by its length alone.
 const MOST_BYTES: usize = 2115;
 
+/// Room for a line.
+const ROOM: usize = 64;
+
 /// The front of the file, as much as fits, and how much that is.
+// Nothing is allocated for it. The loop counts nothing: a file is read out in no more reads than it has bytes.
 fn read_front(rt: &HostRuntime, bytes: &mut [u8]) -> io::Result<usize>
     ensures { IfOk result (λ n. n ≤ length bytes.old) }
 {
@@ -30,37 +39,43 @@ fn read_front(rt: &HostRuntime, bytes: &mut [u8]) -> io::Result<usize>
     Ok(length)
 }
 
-/// Fills the book from the file. Answers whether the file is accepted.
-pub(crate) fn read_curves(rt: &HostRuntime, book: &mut CurveBook) -> Result<bool, Problem> {
-    let mut bytes = [0; MOST_BYTES];
-    match read_front(rt, &mut bytes) {
-        Ok(length) => Ok(read_curve_book(&bytes[0..length], book).is_ok()),
-        Err(e) => Err(Problem::Curves(e)),
-    }
+/// The curve book of a file's bytes, or why the file is refused.
+fn curve_book(bytes: &[u8]) -> Result<CurveBook, Fault>
+    ensures reply { RefusedBy 51 result }
+    ensures holds { IfOk result (λ book. curves_of book ≡ file_curves bytes.now) }
+{
+    let mut book = CurveBook::blank();
+    read_curve_book(bytes, &mut book)?;
+    Ok(book)
 }
 
-/// The line of a refused file, at the front of the buffer. Answers its length.
-fn tell_refusal(out: &mut [u8; 64]) -> usize
-    ensures line { take result out.new ≡ text (refusal 51 0) }
-    ensures short { result ≤ 64 }
+/// The curve book of the file, or why the file is refused.
+pub(crate) fn read_curves(rt: &HostRuntime) -> Result<Result<CurveBook, Fault>, Problem>
+    ensures { IfOk result (λ book. RefusedBy 51 book) }
+{
+    let mut bytes = [0; MOST_BYTES];
+    let length = read_front(rt, &mut bytes).map_err(Problem::Curves)?;
+    Ok(curve_book(&bytes[..length]))
+}
+
+/// The line of a file that is refused.
+fn refusal_line(room: &mut [u8; ROOM], fault: Fault) -> &[u8]
+    ensures { result.now ≡ text (refusal (told_of fault).number 0) }
 {
     let line = Line::Refused {
-        number: 51,
+        number: fault.number(),
         offset: 0,
     };
-    match write_line(out, line) {
-        Ok(length) => length,
-        // No line is longer than the buffer.
+    match write_line(room, line) {
+        Ok(length) => &room[..length],
+        // No line is longer than the room.
         Err(_) => unreachable!(),
     }
 }
 
-/// Writes the line of a refused file.
-pub(crate) fn refuse_curves(rt: &HostRuntime) -> Result<(), Problem> {
-    let mut out = [0; 64];
-    let length = tell_refusal(&mut out);
-    match rt.stdout().write_all(&out[0..length]) {
-        Ok(()) => Ok(()),
-        Err(e) => Err(Problem::Output(e)),
-    }
+/// Writes the line of a file that is refused.
+pub(crate) fn refuse_curves(rt: &HostRuntime, fault: Fault) -> Result<(), Problem> {
+    rt.stdout()
+        .write_all(refusal_line(&mut [0; ROOM], fault))
+        .map_err(Problem::Output)
 }

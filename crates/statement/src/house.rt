@@ -1,9 +1,14 @@
 //! The house: its ledger and books, and the feed that it settles.
-ghost use Rattle.std.specs.Prelude.{◌≤◌, length, IfOk};
+ghost use Rattle.std.specs.Prelude.{◌≡◌, ◌-◌, ◌^◌, ◌≤◌, min, [], length, drop, IfOk, IfSome};
+ghost use Rattle.books.specs.Books.{suppliers as enlisted, customers as customed};
+ghost use Rattle.engine.specs.Advancing.{end_lines};
+ghost use Rattle.feed.specs.Front.{front};
+ghost use Rattle.lines.specs.Texts.{texts};
+ghost use Rattle.statement.specs.Windows.{at_hand_lem};
 
 use crate::problem::Problem;
-use crate::streams::{Window, refill};
-use accounts::{Customer, Kind, Supplier};
+use crate::window::Window;
+use accounts::{Customer, Supplier};
 use books::Book;
 use curves::CurveBook;
 use engine::{Progress, advance, finish, lines_from};
@@ -11,140 +16,152 @@ use feed::Reader;
 use ledger::Rest;
 use lines::LINES_ROOM;
 use maps::FixedMap;
-use market::Reserves;
-use settlement::Ledger;
+use settlement::{House, Ledger};
+use sharing::RunningRule;
 use std::io;
 use std::io::{Read, Write};
 
-/// What fills a row that has no account yet.
-const NO_CUSTOMER: Customer = Customer {
-    number: 0,
-    cents: 0,
-};
+/// The rows of the books' tables.
+const MOST_SUPPLIERS: usize = 128;
 
-const NO_SUPPLIER: Supplier = Supplier {
-    number: 0,
-    location: 0,
-    kind: Kind::NotSynchronized,
-    upper: 0,
-    response: 0,
-    cents: 0,
-    held: 0,
-    hour: 0,
-    ahead: Reserves::NONE,
-};
+const MOST_CUSTOMERS: usize = 256;
 
-/// How the bytes at hand were left: so many were settled, the next stands at this offset of the feed, and
-/// whether the feed has stopped there.
-#[derive(Clone, Copy)]
+/// How the bytes at hand were left: so many were settled, and the next stands at this offset of the feed.
+#[derive(Clone, Copy, PartialEq, Eq, Debug)]
 struct Passed {
     bytes: usize,
     offset: u64,
-    stopped: bool,
 }
 
-/// Settles every whole record of the bytes, which stand at the offset of the feed, and writes the lines that
-/// follow.
-fn settle_bytes<W: Write>(
-    ledger: Ledger,
-    suppliers: &mut Book<'_, Supplier>,
-    customers: &mut Book<'_, Customer>,
-    curves: &CurveBook,
-    bytes: &[u8],
-    offset: u64,
-    out: &mut [u8; LINES_ROOM],
-    output: &mut W,
-) -> (Ledger, io::Result<Passed>)
-    ensures { IfOk result.1 (λ p. p.bytes ≤ length bytes.now) }
-{
-    let mut reader = Reader::new(bytes, offset);
-    let mut ledger = ledger;
-    let mut stopped = false;
-    for _ in 0..bytes.len() {
-        let (next, progress) = advance::<FixedMap, sharing::RunningRule>(
-            ledger,
-            &FixedMap,
+/// How a feed ended.
+#[derive(Clone, Copy, PartialEq, Eq, Debug)]
+enum Ending {
+    /// With its last byte.
+    Whole,
+    /// With a refusal after which nothing is read, and whose line is written.
+    Stopped,
+}
+
+/// Where a feed is settled: the house, and where the lines of its records go.
+#[derive(Drop)]
+struct Desk<'a, W> {
+    house: House<'a, FixedMap>,
+    lines: [u8; LINES_ROOM],
+    output: &'a mut W,
+}
+
+impl<'a, W: Write> Desk<'a, W> {
+    /// The desk of a new house, whose books are over these tables.
+    fn new(
+        curves: &'a CurveBook,
+        suppliers: &'a mut [Supplier],
+        customers: &'a mut [Customer],
+        output: &'a mut W,
+    ) -> Desk<'a, W>
+        ensures suppliers { enlisted result.house.suppliers ≡ [] }
+        ensures customers { customed result.house.customers ≡ [] }
+        ensures curves { result.house.curves.now ≡ curves.now }
+    {
+        let suppliers = Book::new(suppliers);
+        let customers = Book::new(customers);
+        let house = House {
+            map: &FixedMap,
+            curves,
             suppliers,
             customers,
-            curves,
-            &mut reader,
-            out,
-        );
-        ledger = next;
-        let outcome = match progress {
-            Progress::Waiting => break,
-            Progress::Settled(outcome) => outcome,
-            Progress::Stopped(outcome) => {
-                stopped = true;
-                outcome
-            }
         };
-        if outcome.lines < LINES_ROOM {
-            if let Err(e) = output.write_all(lines_from(out, outcome.lines)) {
-                return (ledger, Err(e));
-            }
-        }
-        if stopped {
-            break;
-        }
-    }
-    let passed = Passed {
-        bytes: bytes.len().saturating_sub(reader.rest().len()),
-        offset: reader.offset(),
-        stopped,
-    };
-    (ledger, Ok(passed))
-}
-
-/// Settles the feed as it comes in, until it ends or stops. Answers whether it stopped; the window then has what
-/// is left of it.
-fn settle_stream<R: Read, W: Write>(
-    ledger: Ledger,
-    suppliers: &mut Book<'_, Supplier>,
-    customers: &mut Book<'_, Customer>,
-    curves: &CurveBook,
-    buffer: &mut [u8],
-    window: &mut Window,
-    out: &mut [u8; LINES_ROOM],
-    input: &mut R,
-    output: &mut W,
-) -> (Ledger, Result<bool, Problem>)
-    requires { (window.old.start ≤ window.old.end) × (window.old.end ≤ length buffer.old) }
-    ensures { (window.new.start ≤ window.new.end) × (window.new.end ≤ length buffer.old) }
-{
-    let mut ledger = ledger;
-    for _ in 0..u64::MAX {
-        match refill(input, buffer, window) {
-            Ok(more) => {
-                if !more {
-                    break;
-                }
-            }
-            Err(e) => return (ledger, Err(Problem::Input(e))),
-        }
-        let (next, passed) = settle_bytes(
-            ledger,
-            suppliers,
-            customers,
-            curves,
-            &buffer[window.start..window.end],
-            window.offset,
-            out,
+        Desk {
+            house,
+            lines: [0; LINES_ROOM],
             output,
-        );
-        ledger = next;
-        match passed {
-            Ok(passed) => {
-                window.start += passed.bytes;
-                window.offset = passed.offset;
-                if passed.stopped {
-                    return (ledger, Ok(true));
-                }
-            }
-            Err(e) => return (ledger, Err(Problem::Output(e))),
         }
     }
-    (ledger, Ok(false))
+
+    /// Writes the lines that begin at this place of their room; none begin at its end.
+    fn write_lines(&mut self, start: usize) -> io::Result<()>
+        ensures { self.new.house ≡ self.old.house }
+    {
+        self.output.write_all(lines_from(&self.lines, start))
+    }
+
+    /// Settles every whole record of the bytes, which stand at the offset of the feed, and writes the lines
+    /// that follow. Answers none where the feed has stopped.
+    fn settle_bytes(
+        &mut self,
+        ledger: Ledger,
+        bytes: &[u8],
+        offset: u64,
+    ) -> (Ledger, io::Result<Option<Passed>>)
+        ensures { IfOk result.1 (λ passed. IfSome passed (λ p. p.bytes ≤ length bytes.now)) }
+    {
+        let mut reader = Reader::new(bytes, offset);
+        let mut ledger = ledger;
+        // A record has a byte at least.
+        for _ in 0..bytes.len() {
+            let (next, progress) = advance::<FixedMap, RunningRule>(
+                ledger,
+                &mut self.house,
+                &mut reader,
+                &mut self.lines,
+            );
+            ledger = next;
+            match progress {
+                Progress::Waiting => break,
+                Progress::Settled(outcome) => {
+                    if let Err(e) = self.write_lines(outcome.lines) {
+                        return (ledger, Err(e));
+                    }
+                }
+                Progress::Stopped(outcome) => {
+                    return (ledger, self.write_lines(outcome.lines).map(|()| None));
+                }
+            }
+        }
+        let passed = Passed {
+            bytes: bytes.len().saturating_sub(reader.rest().len()),
+            offset: reader.offset(),
+        };
+        (ledger, Ok(Some(passed)))
+    }
+
+    /// Settles the feed as it comes in, until it ends or stops; the window then has what is left of it.
+    fn settle_stream<R: Read>(
+        &mut self,
+        ledger: Ledger,
+        window: &mut Window<'_>,
+        input: &mut R,
+    ) -> (Ledger, Result<Ending, Problem>) {
+        let mut ledger = ledger;
+        // A count that is never reached stands for a loop that waits on input.
+        for _ in 0..u64::MAX {
+            match window.refill(input) {
+                Ok(0) => break,
+                Ok(_) => {}
+                Err(e) => return (ledger, Err(Problem::Input(e))),
+            }
+            let (next, passed) = self.settle_bytes(ledger, window.at_hand(), window.offset());
+            ledger = next;
+            match passed {
+                Ok(Some(passed)) => window.pass(passed.bytes, passed.offset),
+                Ok(None) => return (ledger, Ok(Ending::Stopped)),
+                Err(e) => return (ledger, Err(Problem::Output(e))),
+            }
+        }
+        (ledger, Ok(Ending::Whole))
+    }
+
+    /// Ends the feed after the bytes of the window, and answers where its last line begins. An hour that is open
+    /// is voided.
+    fn finish(&mut self, ledger: Ledger, window: &Window<'_>) -> usize
+        ensures { let bytes = at_hand_lem window.now in
+            drop result self.new.lines ≡ texts (end_lines (min window.now.offset (2 ^ 64 - 1 - length bytes)) (front bytes)) }
+    {
+        let reader = Reader::new(window.at_hand(), window.offset());
+        let (rest, lines) = finish(ledger, &mut self.house.suppliers, &reader, &mut self.lines);
+        // A statement ends without a line of what is still carried.
+        let _carry = rest.into_carry();
+        lines
+    }
 }
 
 /// Settles the feed of a new house from its first byte to its last. An hour that is open at the end is voided.
@@ -154,37 +171,14 @@ pub(crate) fn settle_feed<R: Read, W: Write>(
     curves: &CurveBook,
     buffer: &mut [u8],
 ) -> Result<(), Problem> {
-    let mut supplier_table = [NO_SUPPLIER; 128];
-    let mut customer_table = [NO_CUSTOMER; 256];
-    let mut suppliers = Book::new(&mut supplier_table);
-    let mut customers = Book::new(&mut customer_table);
-    let mut out = [0; LINES_ROOM];
-    let mut window = Window {
-        start: 0,
-        end: 0,
-        offset: 0,
-    };
-    let (ledger, stopped) = settle_stream(
-        Ledger::Rest(Rest::new()),
-        &mut suppliers,
-        &mut customers,
-        curves,
-        buffer,
-        &mut window,
-        &mut out,
-        input,
-        output,
-    );
-    let reader = Reader::new(&buffer[window.start..window.end], window.offset);
-    let (rest, lines) = finish(ledger, &mut suppliers, &reader, &mut out);
-    // A statement ends without a line of what is still carried.
-    let _carry = rest.into_carry();
-    // A feed that has stopped has its line already.
-    if stopped? || lines == LINES_ROOM {
-        return Ok(());
-    }
-    match output.write_all(lines_from(&out, lines)) {
-        Ok(()) => Ok(()),
-        Err(e) => Err(Problem::Output(e)),
+    let mut supplier_table = [Supplier::default(); MOST_SUPPLIERS];
+    let mut customer_table = [Customer::default(); MOST_CUSTOMERS];
+    let mut desk = Desk::new(curves, &mut supplier_table, &mut customer_table, output);
+    let mut window = Window::new(buffer);
+    let (ledger, ending) = desk.settle_stream(Ledger::Rest(Rest::new()), &mut window, input);
+    let lines = desk.finish(ledger, &window);
+    match ending? {
+        Ending::Stopped => Ok(()),
+        Ending::Whole => desk.write_lines(lines).map_err(Problem::Output),
     }
 }

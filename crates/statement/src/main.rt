@@ -9,19 +9,21 @@ mod curves_file;
 mod house;
 mod problem;
 mod streams;
+mod window;
 
-use curves::CurveBook;
 use curves_file::{read_curves, refuse_curves};
 use house::settle_feed;
 use problem::Problem;
 use std::process::ExitCode;
-use streams::BUFFER;
+
+/// The bytes of the buffer. A pipe holds half as many, so that one read empties it.
+const BUFFER: usize = 131_072;
 
 fn run(rt: &HostRuntime) -> Result<(), Problem> {
-    let mut curves = CurveBook::blank();
-    if !read_curves(rt, &mut curves)? {
-        return refuse_curves(rt);
-    }
+    let curves = match read_curves(rt)? {
+        Ok(curves) => curves,
+        Err(fault) => return refuse_curves(rt, fault),
+    };
     let mut buffer = vec![in rt.alloc(); 0u8; BUFFER]?;
     settle_feed(
         &mut rt.stdin(),

@@ -1,8 +1,7 @@
 -- Chains of checks: what acceptance shows, and how a loop makes a check.
-use Rattle.std.proofs.Common.{◌≡◌, ℕ, zero, suc, ◌+◌, ◌-◌, ◌<◌, ◌≤◌, Bool, true, false, List, length, get_or, drop, Ok, Err, refl, ap, inl, inr, eq-or-lt_of_le, arith}
-use Rattle.std.proofs.lemmas.List.{drop_more, at_drop_all}
+use Rattle.std.proofs.Common.{◌≡◌, ℕ, zero, suc, ◌+◌, ◌-◌, ◌<◌, ◌≤◌, Bool, true, false, Ok, Err, refl, ap, inl, inr, eq-or-lt_of_le, arith}
 use Rattle.std.proofs.lemmas.Bool.{both_ways}
-use Rattle.sums.specs.Verdict.{Verdict, accept, accepts, ◌then◌, want, every, scan, scan_one}
+use Rattle.sums.specs.Verdict.{Verdict, accept, accepts, ◌then◌, want, every}
 use Rattle.sums.specs.Laws.{FirstFailureTold}
 
 module _ {F : Type 0} where
@@ -84,31 +83,3 @@ first_failure_told F ok f n = (
   λ h. every_all ok f 0 n (λ i a b. h i (omega arith)),
   λ i l before q. every_first ok f 0 n i (omega arith) (omega arith) (λ j a b. before j b) q,
 )
-
--- ---- two lists: the loop's invariant is `scan ok f i (drop i xs) (drop i ys) ≡ scan ok f 0 xs ys`
-module _ {A B F : Type 0} (ok : A → B → Bool) (f : ℕ → F) (xs : List A) (ys : List B) (i : ℕ) where
-  pub scan_step : (x : A) (y : B) → i < length xs → i < length ys → scan ok f i (drop i xs) (drop i ys) ≡ (want (ok (get_or xs i x) (get_or ys i y)) (f i) then scan ok f (i + 1) (drop (i + 1) xs) (drop (i + 1) ys))
-  scan_step x y h k = rw (drop_more xs i x h, drop_more ys i y k)
-
-  pub scan_bad : (x : A) (y : B) → i < length xs → i < length ys → ok (get_or xs i x) (get_or ys i y) ≡ false → scan ok f i (drop i xs) (drop i ys) ≡ Err (f i)
-  scan_bad x y h k q = rw (scan_step x y h k, q)
-
-  pub scan_good : (x : A) (y : B) → i < length xs → i < length ys → ok (get_or xs i x) (get_or ys i y) ≡ true → scan ok f i (drop i xs) (drop i ys) ≡ scan ok f (i + 1) (drop (i + 1) xs) (drop (i + 1) ys)
-  scan_good x y h k q = rw (scan_step x y h k, q)
-
-  pub scan_end : length xs ≤ i → scan ok f i (drop i xs) (drop i ys) ≡ accept
-  scan_end h = at_drop_all (λ zs. scan ok f i zs (drop i ys)) xs i h
-
--- ---- one list
-module _ {A F : Type 0} (ok : A → Bool) (f : ℕ → F) (xs : List A) (i : ℕ) where
-  pub one_step : (x : A) → i < length xs → scan_one ok f i (drop i xs) ≡ (want (ok (get_or xs i x)) (f i) then scan_one ok f (i + 1) (drop (i + 1) xs))
-  one_step x h = rw (drop_more xs i x h)
-
-  pub one_bad : (x : A) → i < length xs → ok (get_or xs i x) ≡ false → scan_one ok f i (drop i xs) ≡ Err (f i)
-  one_bad x h q = rw (one_step x h, q)
-
-  pub one_good : (x : A) → i < length xs → ok (get_or xs i x) ≡ true → scan_one ok f i (drop i xs) ≡ scan_one ok f (i + 1) (drop (i + 1) xs)
-  one_good x h q = rw (one_step x h, q)
-
-  pub one_end : length xs ≤ i → scan_one ok f i (drop i xs) ≡ accept
-  one_end h = at_drop_all (scan_one ok f i) xs i h

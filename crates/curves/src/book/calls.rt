@@ -6,21 +6,8 @@ ghost use Rattle.curves.specs.Book.{steps_of, curves_of, steps_at_lem, book_verd
 
 use crate::book::{CurveBook, MOST_CURVES};
 use crate::curve::Curve;
-use crate::curve::read::value_of;
-use crate::step::Step;
+use bounded::Bounded;
 use faults::Fault;
-
-/// The curves at the front of an array of as many as a book can have.
-fn padded(curves: &[Curve]) -> [Curve; MOST_CURVES]
-    requires { length curves.now ≤ most_curves }
-    ensures { take (length curves.now) result ≡ curves.now }
-{
-    let mut all = [Curve::empty(); MOST_CURVES];
-    for (i, curve) in curves.iter().enumerate() {
-        all[i] = *curve;
-    }
-    all
-}
 
 impl CurveBook {
     /// A book of one curve, which has no steps.
@@ -28,8 +15,7 @@ impl CurveBook {
         ensures { curves_of result ≡ [] ∷ [] }
     {
         CurveBook {
-            count: 1,
-            curves: [Curve::empty(); MOST_CURVES],
+            curves: Bounded::first_of(&[Curve::empty()]),
         }
     }
 
@@ -47,8 +33,7 @@ impl CurveBook {
             });
         }
         *self = CurveBook {
-            count,
-            curves: padded(curves),
+            curves: Bounded::first_of(curves),
         };
         Ok(())
     }
@@ -60,7 +45,7 @@ impl CurveBook {
         ensures some { 1 ≤ length result.now }
         ensures few { length result.now ≤ most_curves }
     {
-        &self.curves[0..self.count]
+        self.curves.as_slice()
     }
 
     /// How many curves the book has.
@@ -72,22 +57,12 @@ impl CurveBook {
         self.curves().len()
     }
 
-    /// The steps of the requirement's curve, none where the book has no curve for it.
-    fn steps_at(&self, requirement: usize) -> &[Step]
-        ensures { result.now ≡ steps_at_lem (curves_of self.now) requirement }
-    {
-        let curves = self.curves();
-        if requirement < curves.len() {
-            curves[requirement].steps()
-        } else {
-            &[]
-        }
-    }
-
     /// The value of the requirement's curve, or 0 where the book has no curve for it.
     pub fn value(&self, requirement: usize, target: u32, quantity: u128) -> u32
         ensures value { result ≡ value_at (steps_at_lem (curves_of self.now) requirement) target quantity }
     {
-        value_of(self.steps_at(requirement), target, quantity)
+        self.curves()
+            .get(requirement)
+            .map_or(0, |curve| curve.value(target, quantity))
     }
 }

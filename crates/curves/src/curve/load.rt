@@ -1,23 +1,12 @@
 //! Loading a curve.
-ghost use Rattle.std.specs.Prelude.{◌≡◌, ◌≤◌, length, take, MatchResult};
-ghost use Rattle.curves.specs.Steps.{most_steps, curve_verdict};
+ghost use Rattle.std.specs.Prelude.{◌≡◌, MatchResult};
+ghost use Rattle.curves.specs.Steps.{curve_verdict};
 ghost use Rattle.curves.specs.Book.{steps_of};
 
 use crate::curve::Curve;
-use crate::step::{MOST_STEPS, NO_STEP, Step, judge};
+use crate::step::{Step, judge};
+use bounded::Bounded;
 use faults::Fault;
-
-/// The steps at the front of an array of eight.
-fn padded(steps: &[Step]) -> [Step; MOST_STEPS]
-    requires { length steps.now ≤ most_steps }
-    ensures { take (length steps.now) result ≡ steps.now }
-{
-    let mut all = [NO_STEP; MOST_STEPS];
-    for (i, step) in steps.iter().enumerate() {
-        all[i] = *step;
-    }
-    all
-}
 
 impl Curve {
     /// Takes the steps over. `number` is the curve's place in its book (0 for one by itself), which
@@ -28,8 +17,7 @@ impl Curve {
     {
         judge(number, steps)?;
         *self = Curve {
-            count: steps.len(),
-            steps: padded(steps),
+            steps: Bounded::first_of(steps),
         };
         Ok(())
     }

@@ -5,7 +5,8 @@ ghost use Rattle.curves.specs.Value.{value_at};
 ghost use Rattle.curves.specs.Book.{steps_of};
 
 use crate::curve::Curve;
-use crate::step::{MOST_STEPS, NO_STEP, Step};
+use crate::step::Step;
+use bounded::Bounded;
 
 /// Whether the quantity and the step's margin together are within the target.
 fn reaches(step: Step, target: u32, quantity: u128) -> bool
@@ -15,7 +16,7 @@ fn reaches(step: Step, target: u32, quantity: u128) -> bool
 }
 
 /// The price of the first step whose margin, on top of the quantity, is within the target, else 0.
-pub(crate) fn value_of(steps: &[Step], target: u32, quantity: u128) -> u32
+fn value_of(steps: &[Step], target: u32, quantity: u128) -> u32
     ensures { result ≡ value_at steps.now target quantity }
 {
     for step in steps {
@@ -32,8 +33,7 @@ impl Curve {
         ensures { steps_of result ≡ [] }
     {
         Curve {
-            count: 0,
-            steps: [NO_STEP; MOST_STEPS],
+            steps: Bounded::empty(),
         }
     }
 
@@ -42,7 +42,7 @@ impl Curve {
         ensures value { result.now ≡ steps_of self.now }
         ensures law { IsCurve result.now }
     {
-        &self.steps[0..self.count]
+        self.steps.as_slice()
     }
 
     /// The price of the first step whose margin, on top of the quantity, is within the target, else 0.
@@ -50,5 +50,13 @@ impl Curve {
         ensures value { result ≡ value_at (steps_of self.now) target quantity }
     {
         value_of(self.steps(), target, quantity)
+    }
+}
+
+impl Default for Curve {
+    ghost is_default = { λ c. steps_of c ≡ [] };
+
+    fn default() -> Curve {
+        Curve::empty()
     }
 }

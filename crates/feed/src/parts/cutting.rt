@@ -3,7 +3,7 @@ ghost use Rattle.std.specs.Prelude.{◌≡◌, ◌+◌, ◌*◌, length, drop};
 ghost use Rattle.feed.specs.Entries.{sheet_in, withdrawal_rows};
 ghost use Rattle.feed.specs.Reading.{sheet_of, withdrawals_of};
 
-use crate::parts::{Numbers, ScheduleRows, Sheet, WithdrawalRows};
+use crate::parts::{Rows, Sheet, WithdrawalRows};
 
 /// A sheet of `n` prices and targets and `m` rows.
 pub(crate) fn cut_sheet<'a>(bytes: &'a [u8], n: usize, m: usize) -> Sheet<'a>
@@ -12,11 +12,11 @@ pub(crate) fn cut_sheet<'a>(bytes: &'a [u8], n: usize, m: usize) -> Sheet<'a>
 {
     let (prices, rest) = bytes.split_at(4 * n);
     let (targets, rest) = rest.split_at(4 * n);
-    let (numbers, rows) = rest.split_at(4 * m);
+    let (numbers, rest) = rest.split_at(4 * m);
     Sheet {
-        prices: Numbers { bytes: prices },
-        targets: Numbers { bytes: targets },
-        rows: ScheduleRows { numbers, rows },
+        prices: Rows::new(prices, &[]),
+        targets: Rows::new(targets, &[]),
+        rows: Rows::new(numbers, rest),
     }
 }
 
@@ -25,6 +25,6 @@ pub(crate) fn cut_withdrawals<'a>(bytes: &'a [u8], m: usize) -> WithdrawalRows<'
     requires { length bytes.now ≡ 16 * m }
     ensures { withdrawals_of result ≡ withdrawal_rows bytes.now (drop (4 * m) bytes.now) m }
 {
-    let (numbers, rows) = bytes.split_at(4 * m);
-    WithdrawalRows { numbers, rows }
+    let (numbers, rest) = bytes.split_at(4 * m);
+    Rows::new(numbers, rest)
 }

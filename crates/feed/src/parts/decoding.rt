@@ -1,105 +1,52 @@
-//! What the parts of a feed hold.
+//! What the lists of a feed hold.
 ghost use Rattle.std.specs.Prelude.{◌≡◌, length};
 ghost use Rattle.std.specs.List.{slice_get};
-ghost use Rattle.feed.specs.Reading.{number_count, row_count, numbers_of, schedules_of, withdrawals_of};
+ghost use Rattle.feed.specs.Entries.{row_count};
+ghost use Rattle.feed.specs.Reading.{rows_of};
 ghost use Rattle.feed.specs.Filling.{Filled};
 
-use crate::numbers::read_u32;
-use crate::parts::{Numbers, ScheduleRows, WithdrawalRows};
-use crate::rows::{read_schedule_row, read_withdrawal_row};
-use accounts::{ScheduleRow, WithdrawalRow};
+use crate::parts::Rows;
+use crate::rows::{Row, count_rows};
+use std::marker::PhantomData;
 
-impl Numbers<'_> {
-    /// How many numbers there are.
-    pub fn count(&self) -> usize
-        ensures listed { result ≡ length (numbers_of self.now) }
-        ensures room { result ≡ number_count self.now.bytes.now }
+impl<'a, R: Row> Rows<'a, R> {
+    /// The rows that have these numbers, and these bytes besides.
+    pub(crate) fn new(numbers: &'a [u8], rest: &'a [u8]) -> Rows<'a, R>
+        ensures numbers { result.numbers.now ≡ numbers.now }
+        ensures rest { result.rest.now ≡ rest.now }
     {
-        self.bytes.len() / 4
-    }
-
-    /// Number `i`, if there is one.
-    pub fn at(&self, i: usize) -> Option<u32>
-        ensures { result ≡ slice_get (numbers_of self.now) i }
-    {
-        if i < self.count() {
-            Some(read_u32(self.bytes, 4 * i))
-        } else {
-            None
+        Rows {
+            numbers,
+            rest,
+            of: PhantomData,
         }
     }
 
-    /// Writes the numbers into the front of an array, as many as fit, and answers how many.
-    pub fn fill(&self, out: &mut [u32]) -> usize
-        ensures { Filled result (numbers_of self.now) out.old out.new }
-    {
-        let count = self.count().min(out.len());
-        for i in 0..count {
-            out[i] = read_u32(self.bytes, 4 * i);
-        }
-        count
-    }
-}
-
-impl ScheduleRows<'_> {
     /// How many rows there are.
     pub fn count(&self) -> usize
-        ensures listed { result ≡ length (schedules_of self.now) }
-        ensures room { result ≡ row_count 20 self.now.numbers.now self.now.rows.now }
+        ensures listed { result ≡ length (rows_of R.WIDTH R.row_at self.now) }
+        ensures room { result ≡ row_count R.WIDTH self.now.numbers.now self.now.rest.now }
     {
-        (self.numbers.len() / 4).min(self.rows.len() / 20)
+        count_rows(R::WIDTH, self.numbers, self.rest)
     }
 
     /// Row `i`, if there is one.
-    pub fn at(&self, i: usize) -> Option<ScheduleRow>
-        ensures { result ≡ slice_get (schedules_of self.now) i }
+    pub fn at(&self, i: usize) -> Option<R>
+        ensures { result ≡ slice_get (rows_of R.WIDTH R.row_at self.now) i }
     {
-        if i < self.count() {
-            Some(read_schedule_row(self.numbers, self.rows, i))
-        } else {
-            None
-        }
+        R::read(self.numbers, self.rest, i)
     }
 
     /// Writes the rows into the front of an array, as many as fit, and answers how many.
-    pub fn fill(&self, out: &mut [ScheduleRow]) -> usize
-        ensures { Filled result (schedules_of self.now) out.old out.new }
+    pub fn fill(&self, out: &mut [R]) -> usize
+        ensures { Filled result (rows_of R.WIDTH R.row_at self.now) out.old out.new }
     {
         let count = self.count().min(out.len());
-        for i in 0..count {
-            out[i] = read_schedule_row(self.numbers, self.rows, i);
-        }
-        count
-    }
-}
-
-impl WithdrawalRows<'_> {
-    /// How many rows there are.
-    pub fn count(&self) -> usize
-        ensures listed { result ≡ length (withdrawals_of self.now) }
-        ensures room { result ≡ row_count 12 self.now.numbers.now self.now.rows.now }
-    {
-        (self.numbers.len() / 4).min(self.rows.len() / 12)
-    }
-
-    /// Row `i`, if there is one.
-    pub fn at(&self, i: usize) -> Option<WithdrawalRow>
-        ensures { result ≡ slice_get (withdrawals_of self.now) i }
-    {
-        if i < self.count() {
-            Some(read_withdrawal_row(self.numbers, self.rows, i))
-        } else {
-            None
-        }
-    }
-
-    /// Writes the rows into the front of an array, as many as fit, and answers how many.
-    pub fn fill(&self, out: &mut [WithdrawalRow]) -> usize
-        ensures { Filled result (withdrawals_of self.now) out.old out.new }
-    {
-        let count = self.count().min(out.len());
-        for i in 0..count {
-            out[i] = read_withdrawal_row(self.numbers, self.rows, i);
+        let places = &mut out[..count];
+        for (i, place) in places.iter_mut().enumerate() {
+            if let Some(row) = self.at(i) {
+                *place = row;
+            }
         }
         count
     }

@@ -10,6 +10,7 @@ use crate::record::body::read_body;
 use faults::Fault;
 
 /// The record of which the header is read and `rest` is left, and its length.
+// Kind and sizes as a struct would be taken apart at once: `body_says` takes them so.
 fn read_sized<'a>(
     kind: Kind,
     n: usize,

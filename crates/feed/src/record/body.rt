@@ -7,7 +7,8 @@ ghost use Rattle.feed.specs.Reading.{says};
 use crate::kind::Kind;
 use crate::numbers::{read_u16, read_u32};
 use crate::parts::cutting::{cut_sheet, cut_withdrawals};
-use crate::record::{NewSupplier, Record};
+use crate::record::Record;
+use accounts::NewSupplier;
 
 /// The record whose body is `body`.
 pub(crate) fn read_body<'a>(kind: Kind, n: usize, m: usize, body: &'a [u8]) -> Record<'a>

@@ -9,7 +9,7 @@ ghost use Rattle.law.specs.Ledger.{new as fresh, enrol_supplier, enrol_customer,
 ghost use Rattle.law.specs.Run.{Step};
 ghost use Rattle.ledger.specs.Stages.{rest_state, opened_state};
 
-use crate::stages::{Opened, Refused, Rest};
+use crate::stages::{ClosedHours, Opened, Refused, Rest};
 use accounts::{Customer, NewSupplier, Supplier};
 use books::Book;
 use faults::Fault;
@@ -24,8 +24,10 @@ impl Rest {
         ensures { (p q : ℕ) → rest_state result [] [] p q ≡ fresh p q }
     {
         Rest {
-            carry: 0,
-            last: None,
+            closed: ClosedHours {
+                carry: 0,
+                last: None,
+            },
         }
     }
 
@@ -67,16 +69,13 @@ impl Rest {
           | Err e ↦ Step m rule (rest_state self xs ys p q) (open_hour hour) (Err e.fault) (rest_state e.ledger xs ys p q)
         ] }
     {
-        let later = match self.last {
-            Some(last) => last < hour,
-            None => true,
-        };
+        let later = self.closed.last.is_none_or(|last| last < hour);
         if hour <= LAST_HOUR && later {
-            let Rest { carry, last } = self;
-            Ok(Opened { carry, last, hour })
+            let Rest { closed } = self;
+            Ok(Opened { closed, hour })
         } else {
             let fault = Fault::HourOutOfOrder {
-                last_closed: self.last,
+                last_closed: self.closed.last,
             };
             Err(Refused {
                 ledger: self,

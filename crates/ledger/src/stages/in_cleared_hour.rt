@@ -11,8 +11,8 @@ ghost use Rattle.law.specs.Ledger.{interval as interval_of, close as closing, vo
 ghost use Rattle.law.specs.Run.{Step};
 ghost use Rattle.ledger.specs.Stages.{rest_state, cleared_state};
 
-use crate::stages::{Cleared, Refused, Rest};
-use accounts::{Customer, ScheduleRow, Supplier, WithdrawalRow};
+use crate::stages::{Cleared, ClosedHours, Refused, Rest};
+use accounts::{Customer, ScheduleSheet, Supplier, WithdrawalRow};
 use books::Book;
 use curves::CurveBook;
 use faults::Fault;
@@ -26,30 +26,19 @@ impl Cleared {
     pub fn interval<M: LocationMap>(
         &mut self,
         map: &M,
-        seconds: u32,
-        shadow_prices: &[u32],
-        targets: &[u32],
         curves: &CurveBook,
         suppliers: &mut Book<'_, Supplier>,
-        rows: &[ScheduleRow],
+        seconds: u32,
+        sheet: ScheduleSheet<'_>,
     ) -> Result<(), Fault>
         ensures { (rule : Rule) (ys : List Custom) (q : ℕ) → Step (M.LocationMap.market map.now) rule
             (cleared_state self.old (enlisted suppliers.old) ys (room suppliers.old) q)
-            (interval_of seconds shadow_prices.now targets.now (curves_of curves.now) rows.now)
+            (interval_of seconds sheet.entry.shadow_prices.now sheet.entry.targets.now (curves_of curves.now) sheet.entry.rows.now)
             result
             (cleared_state self.new (enlisted suppliers.new) ys (room suppliers.new) q) }
     {
-        let plan = plan_interval(
-            map,
-            suppliers,
-            shadow_prices,
-            targets,
-            curves,
-            rows,
-            self.seconds,
-            seconds,
-        )?;
-        suppliers.post(&plan.terms, rows);
+        let plan = plan_interval(map, suppliers, curves, sheet, self.seconds, seconds)?;
+        suppliers.post(&plan.terms, sheet.rows);
         self.seconds += seconds;
         self.cost += plan.cost;
         Ok(())
@@ -76,23 +65,25 @@ impl Cleared {
               (cleared_state e.ledger (enlisted suppliers.new) (customed customers.new) (room suppliers.new) (room customers.new))
         ] }
     {
-        let grains = self.cost + self.carry;
+        let grains = self.cost + self.closed.carry;
         match plan_closing::<S>(suppliers, customers, rows, self.seconds, grains) {
             Ok(shares) => {
                 suppliers.settle();
-                customers.charge(&shares.cents[0..rows.len()]);
+                customers.charge(shares.cents.as_slice());
                 let Cleared {
-                    carry: _,
-                    last: _,
+                    closed: _,
                     hour,
                     seconds: _,
                     cost: _,
                 } = self;
                 Ok(Rest {
-                    carry: shares.carry,
-                    last: Some(hour),
+                    closed: ClosedHours {
+                        carry: shares.carry,
+                        last: Some(hour),
+                    },
                 })
             }
+            // Not by `map_err` and `?`: the closure would take the ledger, which is handed on where all is well.
             Err(fault) => Err(Refused {
                 ledger: self,
                 fault,
@@ -101,6 +92,7 @@ impl Cleared {
     }
 
     /// Gives the hour up: what it brought is forgotten.
+    // Not one with an opened hour's: each is the step of its own stage, and two lines.
     pub fn void(self, suppliers: &mut Book<'_, Supplier>) -> Rest
         ensures { (m : Market) (rule : Rule) (ys : List Custom) (q : ℕ) → Step m rule
             (cleared_state self (enlisted suppliers.old) ys (room suppliers.old) q)
@@ -110,12 +102,11 @@ impl Cleared {
     {
         suppliers.forget();
         let Cleared {
-            carry,
-            last,
+            closed,
             hour: _,
             seconds: _,
             cost: _,
         } = self;
-        Rest { carry, last }
+        Rest { closed }
     }
 }

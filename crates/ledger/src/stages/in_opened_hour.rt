@@ -12,7 +12,7 @@ ghost use Rattle.law.specs.Run.{Step};
 ghost use Rattle.ledger.specs.Stages.{rest_state, opened_state, cleared_state};
 
 use crate::stages::{Cleared, Opened, Refused, Rest};
-use accounts::{ScheduleRow, Supplier};
+use accounts::{ScheduleSheet, Supplier};
 use books::Book;
 use curves::CurveBook;
 use maps::LocationMap;
@@ -23,37 +23,35 @@ impl Opened {
     pub fn clear<M: LocationMap>(
         self,
         map: &M,
-        shadow_prices: &[u32],
-        targets: &[u32],
         curves: &CurveBook,
         suppliers: &mut Book<'_, Supplier>,
-        rows: &[ScheduleRow],
+        sheet: ScheduleSheet<'_>,
     ) -> Result<Cleared, Refused<Opened>>
         ensures { (rule : Rule) (ys : List Custom) (q : ℕ) → elim result [
           | Ok l ↦ Step (M.LocationMap.market map.now) rule
               (opened_state self (enlisted suppliers.old) ys (room suppliers.old) q)
-              (clearing shadow_prices.now targets.now (curves_of curves.now) rows.now)
+              (clearing sheet.entry.shadow_prices.now sheet.entry.targets.now (curves_of curves.now) sheet.entry.rows.now)
               (Ok tt)
               (cleared_state l (enlisted suppliers.new) ys (room suppliers.new) q)
           | Err e ↦ Step (M.LocationMap.market map.now) rule
               (opened_state self (enlisted suppliers.old) ys (room suppliers.old) q)
-              (clearing shadow_prices.now targets.now (curves_of curves.now) rows.now)
+              (clearing sheet.entry.shadow_prices.now sheet.entry.targets.now (curves_of curves.now) sheet.entry.rows.now)
               (Err e.fault)
               (opened_state e.ledger (enlisted suppliers.new) ys (room suppliers.new) q)
         ] }
     {
-        match plan_clearing(map, suppliers, shadow_prices, targets, curves, rows) {
+        match plan_clearing(map, suppliers, curves, sheet) {
             Ok(plan) => {
-                suppliers.post(&plan.terms, rows);
-                let Opened { carry, last, hour } = self;
+                suppliers.post(&plan.terms, sheet.rows);
+                let Opened { closed, hour } = self;
                 Ok(Cleared {
-                    carry,
-                    last,
+                    closed,
                     hour,
                     seconds: 0,
                     cost: plan.cost,
                 })
             }
+            // Not by `map_err` and `?`: the closure would take the ledger, which is handed on where all is well.
             Err(fault) => Err(Refused {
                 ledger: self,
                 fault,
@@ -70,11 +68,7 @@ impl Opened {
             (rest_state result (enlisted suppliers.new) ys (room suppliers.new) q) }
     {
         suppliers.forget();
-        let Opened {
-            carry,
-            last,
-            hour: _,
-        } = self;
-        Rest { carry, last }
+        let Opened { closed, hour: _ } = self;
+        Rest { closed }
     }
 }

@@ -1,17 +1,28 @@
 //! Loading a map from its arrays.
-ghost use Rattle.std.specs.Prelude.{◌≡◌, ℕ, ◌+◌, ◌*◌, ◌<◌, ◌≤◌, length, MatchResult, slice_index_or};
-ghost use Rattle.sums.specs.Verdict.{want, every};
+ghost use Rattle.std.specs.Prelude.{◌≡◌, ◌≤◌, length, IfOk, MatchResult};
+ghost use Rattle.sums.specs.Verdict.{told, want, every};
 ghost use Rattle.faults.specs.declared.fault.Fault.TheVariants.{MapArrays};
 ghost use Rattle.maps.specs.Market.{SameMarket};
 ghost use Rattle.maps.specs.Tree.{map_verdict, sizes_fit, is_placed_lem, loaded_market};
 ghost use Rattle.maps.specs.Fixed.{fixed_market};
 ghost use Rattle.maps.specs.Loaded.{market_of};
+ghost use Rattle.maps.specs.Places.{parents_of, masks_of};
 
 use crate::loaded_map::slots::count_wanted;
 use crate::loaded_map::{LoadedMap, MOST_LOCATIONS};
+use crate::place::Place;
+use bounded::Bounded;
 use faults::Fault;
 
+/// The numbers of the fixed map's locations that have others below them.
+const WEST: usize = 0;
+
+const EAST: usize = 1;
+
+const SOUTHEAST: usize = 2;
+
 /// There are 1 to 10 locations, and each array has one entry for each.
+// The arrays come in as they are, since a refusal has to tell that their lengths differ.
 fn check_sizes(locations: usize, parents: usize, masks: usize) -> Result<(), Fault>
     ensures { result ≡ want (sizes_fit locations parents masks) (MapArrays locations) }
 {
@@ -28,57 +39,55 @@ fn check_sizes(locations: usize, parents: usize, masks: usize) -> Result<(), Fau
     }
 }
 
-/// Whether the location has a parent as a tree has it and a mask of three bits.
-fn is_placed(parents: &[usize], masks: &[u8], location: usize) -> bool
-    requires { (location < length parents.now) × (location < length masks.now) }
-    ensures { result ≡ is_placed_lem parents.now masks.now location }
+/// The locations with these parents and masks.
+fn paired(parents: &[usize], masks: &[u8]) -> Bounded<Place, MOST_LOCATIONS>
+    requires few { length parents.now ≤ 10 }
+    requires paired { length masks.now ≡ length parents.now }
+    ensures parents { parents_of result.items ≡ parents.now }
+    ensures masks { masks_of result.items ≡ masks.now }
 {
-    let parent = parents[location];
-    let below = if location == 0 {
-        parent == 0
-    } else {
-        parent < location
-    };
-    below && masks[location] <= 7
+    let mut places = Bounded::empty();
+    for (parent, mask) in parents.iter().zip(masks) {
+        // There is room for as many locations as the arrays tell of.
+        let _ = places.push(Place {
+            parent: *parent,
+            mask: *mask,
+        });
+    }
+    places
 }
 
-/// The first location that is not placed is refused.
-fn check_places(parents: &[usize], masks: &[u8]) -> Result<(), Fault>
-    requires { length masks.now ≡ length parents.now }
-    ensures { result ≡ every (is_placed_lem parents.now masks.now) MapArrays 0 (length parents.now) }
+/// The first location that may not be as it is, is refused.
+fn check_places(places: &[Place]) -> Result<(), Fault>
+    ensures { result ≡ every (is_placed_lem (parents_of places.now) (masks_of places.now)) MapArrays 0 (length places.now) }
 {
-    for location in 0..parents.len() {
-        if !is_placed(parents, masks, location) {
+    for (location, place) in places.iter().enumerate() {
+        if !place.fits(location) {
             return Err(Fault::MapArrays { location });
         }
     }
     Ok(())
 }
 
-/// The arrays make a map, or which location is refused.
-fn check_arrays(locations: usize, parents: &[usize], masks: &[u8]) -> Result<(), Fault>
-    ensures { result ≡ map_verdict locations parents.now masks.now }
+/// The locations that the arrays describe, or which location is refused.
+fn places_of(
+    locations: usize,
+    parents: &[usize],
+    masks: &[u8],
+) -> Result<Bounded<Place, MOST_LOCATIONS>, Fault>
+    ensures reply { told result ≡ map_verdict locations parents.now masks.now }
+    ensures parents { IfOk result (λ b. parents_of b.items ≡ parents.now) }
+    ensures masks { IfOk result (λ b. masks_of b.items ≡ masks.now) }
 {
     check_sizes(locations, parents.len(), masks.len())?;
-    check_places(parents, masks)?;
-    if count_wanted(masks, locations) == 0 {
+    let places = paired(parents, masks);
+    check_places(places.as_slice())?;
+    if count_wanted(places.as_slice()) == 0 {
         return Err(Fault::MapArrays {
             location: locations,
         });
     }
-    Ok(())
-}
-
-/// The elements, and then the filler.
-fn padded<T: Copy>(from: &[T], filler: T) -> [T; 10]
-    requires { length from.now ≤ 10 }
-    ensures { (i : ℕ) → slice_index_or result i filler ≡ slice_index_or from.now i filler }
-{
-    let mut all = [filler; 10];
-    for i in 0..10 {
-        all[i] = if i < from.len() { from[i] } else { filler };
-    }
-    all
+    Ok(places)
 }
 
 impl LoadedMap {
@@ -87,10 +96,14 @@ impl LoadedMap {
     pub fn fixed_tree() -> LoadedMap
         ensures { SameMarket (market_of result) fixed_market }
     {
+        let west = Place::asking_for_all(WEST);
+        let east = Place::asking_for_all(WEST);
+        let southeast = Place::asking_for_all(EAST);
+        let new_york_city = Place::asking_for_all(SOUTHEAST);
+        let long_island = Place::asking_for_all(SOUTHEAST);
+        let places = [west, east, southeast, new_york_city, long_island];
         LoadedMap {
-            count: 5,
-            parents: [0, 0, 1, 2, 2, 0, 0, 0, 0, 0],
-            masks: [7, 7, 7, 7, 7, 0, 0, 0, 0, 0],
+            places: Bounded::first_of(&places),
         }
     }
 
@@ -100,12 +113,8 @@ impl LoadedMap {
         ensures reply { result ≡ map_verdict locations parents.now masks.now }
         ensures holds { MatchResult result (λ _. SameMarket (market_of self.new) (loaded_market locations parents.now masks.now)) (λ _. self.new ≡ self.old) }
     {
-        check_arrays(locations, parents, masks)?;
-        *self = LoadedMap {
-            count: locations,
-            parents: padded(parents, 0),
-            masks: padded(masks, 0),
-        };
+        let places = places_of(locations, parents, masks)?;
+        *self = LoadedMap { places };
         Ok(())
     }
 }

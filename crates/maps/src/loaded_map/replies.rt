@@ -1,7 +1,8 @@
 //! What the loaded map replies.
-ghost use Rattle.std.specs.Prelude.{◌≡◌, ℕ, ◌+◌, ◌*◌, ◌<◌, ◌≤◌, Bool};
+ghost use Rattle.std.specs.Prelude.{◌≡◌, ℕ, ◌<◌, ◌≤◌, length, slice_index};
 ghost use Rattle.maps.specs.Tree.{covers};
 ghost use Rattle.maps.specs.Loaded.{market_of};
+ghost use Rattle.maps.specs.Places.{parents_of, masks_of};
 ghost use Rattle.maps.specs.Trees.{loaded_lawful};
 
 use crate::loaded_map::LoadedMap;
@@ -12,17 +13,25 @@ use crate::{LocationMap, Product};
 const ROOT: usize = 0;
 
 impl LoadedMap {
+    /// The parent of the location.
+    fn parent_of(&self, location: usize) -> usize
+        requires { location < length self.now.places.items }
+        ensures { result ≡ slice_index (parents_of self.now.places.items) location }
+    {
+        self.places.as_slice()[location].parent
+    }
+
     /// Whether `upper` is the location or an ancestor of it. Parents have smaller numbers, so this ends.
     fn is_at_or_above(&self, upper: usize, location: usize) -> bool
-        requires { location < self.now.count }
-        ensures { (n : ℕ) → location ≤ n → result ≡ covers self.now.parents n upper location }
+        requires { location < length self.now.places.items }
+        ensures { (n : ℕ) → location ≤ n → result ≡ covers (parents_of self.now.places.items) n upper location }
     {
         if upper == location {
             true
         } else if location == ROOT {
             false
         } else {
-            self.is_at_or_above(upper, self.parents[location])
+            self.is_at_or_above(upper, self.parent_of(location))
         }
     }
 }
@@ -30,21 +39,23 @@ impl LoadedMap {
 impl LocationMap for LoadedMap {
     ghost market = { market_of };
 
-    ghost lawful = { λ x. loaded_lawful x.count x.parents x.masks x.some x.few x.asks };
+    ghost lawful = { λ x. loaded_lawful (length x.places.items) (parents_of x.places.items) (masks_of x.places.items) x.some x.few x.asks };
 
     fn requirements(&self) -> usize {
-        count_wanted(&self.masks, self.count)
+        count_wanted(self.places.as_slice())
     }
 
     fn locations(&self) -> usize {
-        self.count
+        self.places.len()
     }
 
     fn counts(&self, requirement: usize, product: Product, location: usize) -> bool {
-        if requirement >= self.requirements() || location >= self.count {
+        if location >= self.locations() {
             return false;
         }
-        let slot = slot_of(&self.masks, self.count, requirement);
-        self.is_at_or_above(slot / 3, location) && slot % 3 <= product.quality()
+        match slot_of(self.places.as_slice(), requirement) {
+            Some(slot) => self.is_at_or_above(slot / 3, location) && slot % 3 <= product.quality(),
+            None => false,
+        }
     }
 }

@@ -1,50 +1,49 @@
 //! Slots: product `j % 3` at location `j / 3` is slot `j`, so slots go by location, then by product.
-ghost use Rattle.std.specs.Prelude.{◌≡◌, ℕ, ◌+◌, ◌*◌, ◌<◌, ◌≤◌, length, slice_index};
-ghost use Rattle.maps.specs.Tree.{has_bit_lem, wanted_at, slots};
+ghost use Rattle.std.specs.Prelude.{◌≡◌, ◌≤◌, length};
+ghost use Rattle.std.specs.List.{slice_get};
+ghost use Rattle.maps.specs.Tree.{wanted_at, requirement_slots};
+ghost use Rattle.maps.specs.Places.{masks_of};
 
-/// Whether the mask asks for the product of this number.
-fn has_bit(mask: u8, product: usize) -> bool
-    requires { product < 3 }
-    ensures { result ≡ has_bit_lem mask product }
-{
-    (mask >> product) % 2 == 1
-}
+use crate::place::Place;
 
 /// Whether a requirement stands at the slot.
-pub fn is_wanted(masks: &[u8], slot: usize) -> bool
-    requires { slot < 3 * length masks.now }
-    ensures { result ≡ wanted_at masks.now slot }
+fn is_wanted(places: &[Place], slot: usize) -> bool
+    ensures { result ≡ wanted_at (masks_of places.now) slot }
 {
-    has_bit(masks[slot / 3], slot % 3)
+    places
+        .get(slot / 3)
+        .is_some_and(|place| place.asks_for(slot % 3))
 }
 
-/// How many requirements the first locations have.
-pub fn count_wanted(masks: &[u8], locations: usize) -> usize
-    requires { (locations ≤ length masks.now) × (locations ≤ 10) }
-    ensures { result ≡ length (slots (wanted_at masks.now) (3 * locations)) }
+/// How many requirements the locations have.
+// As `(0..3 * places.len()).filter(..).count()` it was tried: the proof did not close.
+pub fn count_wanted(places: &[Place]) -> usize
+    requires { length places.now ≤ 10 }
+    ensures { result ≡ length (requirement_slots (length places.now) (masks_of places.now)) }
 {
     let mut found = 0;
-    for slot in 0..3 * locations {
-        if is_wanted(masks, slot) {
+    for slot in 0..3 * places.len() {
+        if is_wanted(places, slot) {
             found += 1;
         }
     }
     found
 }
 
-/// The slot of a requirement.
-pub fn slot_of(masks: &[u8], locations: usize, requirement: usize) -> usize
-    requires { (locations ≤ length masks.now) × ((locations ≤ 10) × (requirement < length (slots (wanted_at masks.now) (3 * locations)))) }
-    ensures { result ≡ slice_index (slots (wanted_at masks.now) (3 * locations)) requirement }
+/// The slot of a requirement, if there are so many.
+// As `(0..3 * places.len()).filter(..).nth(requirement)` it was tried: the proof did not close.
+pub fn slot_of(places: &[Place], requirement: usize) -> Option<usize>
+    requires { length places.now ≤ 10 }
+    ensures { result ≡ slice_get (requirement_slots (length places.now) (masks_of places.now)) requirement }
 {
     let mut left = requirement;
-    for slot in 0..3 * locations {
-        if is_wanted(masks, slot) {
+    for slot in 0..3 * places.len() {
+        if is_wanted(places, slot) {
             if left == 0 {
-                return slot;
+                return Some(slot);
             }
             left -= 1;
         }
     }
-    0
+    None
 }

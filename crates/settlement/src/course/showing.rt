@@ -27,14 +27,14 @@ impl Ledger {
         }
     }
 
-    /// The hour in hand, or 0 at rest.
-    pub fn hour(&self) -> u32
+    /// The hour in hand, if there is one.
+    pub fn hour(&self) -> Option<u32>
         ensures { result ≡ hour_of self.now }
     {
         match self {
-            Ledger::Rest(_) => 0,
-            Ledger::Opened(l) => l.hour(),
-            Ledger::Cleared(l) => l.hour(),
+            Ledger::Rest(_) => None,
+            Ledger::Opened(l) => Some(l.hour()),
+            Ledger::Cleared(l) => Some(l.hour()),
         }
     }
 

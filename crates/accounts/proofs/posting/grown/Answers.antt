@@ -43,28 +43,26 @@ fits x n h k =
 product : (x : ℤ) (n : ℕ) → SFits w128 x → n < 2 ^ 32 → to_z w128 (of_z w128 x) *ℤ to_z w128 n ≡ x *ℤ pos n
 product x n f h = ap (λ (z : ℤ). z *ℤ to_z w128 n) (to_z-of_z w128 x f) ∙ ap (λ (z : ℤ). x *ℤ z) (to_z_pos w128 n (omega arith))
 
-pub returns-then-in_second : goal.returns-then-in_second
-returns-then-in_second c =
-    let f = c.ranges.in_second in
-    none c.args.amount c.args.in_second c.args.seconds c.ranges.amount (omega (arith, ints, simp to_z-of_z at c.if-in_second.true)) (omega arith)
-
-pub returns-then-in_second-gt-MOST_EARNED : goal.returns-then-in_second-gt-MOST_EARNED
-returns-then-in_second-gt-MOST_EARNED c =
-    let f = c.ranges.in_second in
-    none c.args.amount c.args.in_second c.args.seconds c.ranges.amount (omega (arith, ints, simp to_z-of_z at c.if-in_second-gt-MOST_EARNED.true)) (omega arith)
+pub returns-then-unsigned_abs-gt-MOST_EARNED : goal.returns-then-unsigned_abs-gt-MOST_EARNED
+returns-then-unsigned_abs-gt-MOST_EARNED c =
+    let f : SFits w128 c.args.in_second = c.ranges.in_second in
+    let size : c.unsigned_abs.result ≡ nat_abs c.args.in_second = simp to_z-of_z at c.unsigned_abs.ensures.value in
+    none c.args.amount c.args.in_second c.args.seconds c.ranges.amount (omega arith) (omega arith)
 
 pub overflow_mul-in_second : goal.overflow_mul-in_second
 overflow_mul-in_second c =
     let f : SFits w128 c.args.in_second = c.ranges.in_second in
-    let size : nat_abs c.args.in_second ≤ 2 ^ 90 = omega (arith, ints, simp to_z-of_z at c.if-in_second.false, simp to_z-of_z at c.if-in_second-gt-MOST_EARNED.false) in
-    rw (product c.args.in_second c.args.seconds f (omega arith)) (fits c.args.in_second c.args.seconds size (omega arith))
+    let size : c.unsigned_abs.result ≡ nat_abs c.args.in_second = simp to_z-of_z at c.unsigned_abs.ensures.value in
+    let few : nat_abs c.args.in_second ≤ 2 ^ 90 = omega arith in
+    rw (product c.args.in_second c.args.seconds f (omega arith)) (fits c.args.in_second c.args.seconds few (omega arith))
 
 pub returns : goal.returns
 returns c =
     let f : SFits w128 c.args.in_second = c.ranges.in_second in
     let fa : SFits w64 c.args.amount = c.ranges.amount in
-    let size : nat_abs c.args.in_second ≤ 2 ^ 90 = omega (arith, ints, simp to_z-of_z at c.if-in_second.false, simp to_z-of_z at c.if-in_second-gt-MOST_EARNED.false) in
-    let fp = fits c.args.in_second c.args.seconds size (omega arith) in
+    let size : c.unsigned_abs.result ≡ nat_abs c.args.in_second = simp to_z-of_z at c.unsigned_abs.ensures.value in
+    let few : nat_abs c.args.in_second ≤ 2 ^ 90 = omega arith in
+    let fp = fits c.args.in_second c.args.seconds few (omega arith) in
     let is : to_z w128 (of_z w128 (to_z w128 (of_z w128 c.args.in_second) *ℤ to_z w128 c.args.seconds)) ≡ c.args.in_second *ℤ pos c.args.seconds =
     ap (λ (z : ℤ). to_z w128 (of_z w128 z)) (product c.args.in_second c.args.seconds f (omega arith)) ∙ to_z-of_z w128 _ fp in
     c.added-2.ensures

@@ -1,10 +1,7 @@
 use Rattle.std.proofs.Common.{arith}
-use Rattle.books.proofs.Changing.{mapped_more, mapped_all}
+use Rattle.books.proofs.Changing.{mapped_more}
 use Rattle.books.proofs.changes.change_all.Goals as goal
 
-pub loop-i-preserved : goal.loop-i-preserved
-loop-i-preserved g c =
-    mapped_more (g.C.Change.changed c.args.change.now) c.args.accounts.now c.loop-i.accounts c.loop-i.i c.index-accounts-i.result c.changed.result (omega arith) c.loop-i.invariant c.index-accounts-i.is c.changed.ensures
-
-pub returns : goal.returns
-returns g c = mapped_all (g.C.Change.changed c.args.change.now) c.args.accounts.now c.loop-i.accounts c.loop-i.i (omega arith) c.loop-i.invariant
+pub loop-account-preserved : goal.loop-account-preserved
+loop-account-preserved g c becomes answers =
+    mapped_more becomes c.args.accounts.now c.loop-account.accounts c.loop-account.account-index c.account-item.result c.change.result (omega arith) (c.loop-account.invariant becomes answers) c.account-item.is (answers _ _ c.change.ensures)

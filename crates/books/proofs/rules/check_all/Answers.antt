@@ -1,21 +1,8 @@
-use Rattle.std.proofs.Common.{arith}
-use Rattle.sums.proofs.Walks.{one_refuses, one_goes_on, one_accepts}
+use Rattle.std.proofs.Common.{rules, tests}
+use Rattle.std.proofs.lemmas.Iterator.{YieldsList-from_slice}
+use Rattle.std.proofs.lemmas.Iterator.Search.{position_from_yields_List}
+use Rattle.books.proofs.Firsts.{first_one}
 use Rattle.books.proofs.rules.check_all.Goals as goal
 
-pub returns-then-not-keeps : goal.returns-then-not-keeps
-returns-then-not-keeps g c =
-    let ok = g.R.Rule.keeps c.args.rule.now in
-    let f = g.R.Rule.breach c.args.rule.now in
-    one_refuses ok f c.args.items.now c.loop-i.i c.loop-i.invariant c.index-items-i.result c.breach.result (omega arith) c.index-items-i.is c.if-not-keeps.ensures c.breach.ensures
-
-pub loop-i-preserved : goal.loop-i-preserved
-loop-i-preserved g c =
-    let ok = g.R.Rule.keeps c.args.rule.now in
-    let f = g.R.Rule.breach c.args.rule.now in
-    one_goes_on ok f c.args.items.now c.loop-i.i c.loop-i.invariant c.index-items-i.result (omega arith) c.index-items-i.is c.if-not-keeps.ensures
-
 pub returns : goal.returns
-returns g c =
-    let ok = g.R.Rule.keeps c.args.rule.now in
-    let f = g.R.Rule.breach c.args.rule.now in
-    one_accepts ok f c.args.items.now c.loop-i.i c.loop-i.invariant (omega arith)
+returns g c rule of keeps faults = first_one rule of c.args.items.now _ _ c.map_or.ensures (λ i k. search rules) (position_from_yields_List _ _ _ _ c.position.ensures.ran (YieldsList-from_slice c.args.items.now cc) (λ x b q k. search (rules, tests)))

@@ -1,9 +1,6 @@
 use Rattle.engine.proofs.Advanced.{one_more}
 use Rattle.engine.proofs.finishing.finish.Goals as goal
 
-pub returns : goal.returns
-returns c = record {
-  step = c.into_rest.ensures;
-  lines = c.tell_end-lines.ensures;
-  law = λ m lawful rule fair ys q log run. one_more m lawful rule fair _ _ _ _ (c.into_rest.ensures m rule ys q) log run;
-}
+pub returns-clause-law : goal.returns-clause-law
+returns-clause-law c m lawful rule fair ys q log run =
+    one_more m lawful rule fair _ _ _ _ (c.into_rest.ensures m rule ys q) log run

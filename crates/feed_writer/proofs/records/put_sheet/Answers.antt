@@ -7,20 +7,20 @@ use Rattle.feed_writer.proofs.records.put_sheet.Goals as goal
 pub returns : goal.returns
 unfolding sheet_bytes
 returns c =
-    let a = length_numbers c.args.prices.now in
-    let b = length_numbers c.args.targets.now in
-    let d = length_row_numbers (λ r. r.number) c.args.rows.now in
-    let e = length_schedules c.args.rows.now in
+    let a = length_numbers c.args.sheet.shadow_prices.now in
+    let b = length_numbers c.args.sheet.targets.now in
+    let d = length_row_numbers (λ r. r.number) c.args.sheet.rows.now in
+    let e = length_schedules c.args.sheet.rows.now in
     record {
       holds =
-          follows _ _ _ _ _ _ _ (follows _ _ _ _ _ _ _ (follows _ _ _ _ _ _ _ c.put_numbers.ensures.holds
-          c.put_numbers-2.ensures.holds (omega arith) (omega arith))
-          c.put_row_numbers.ensures.holds (simp length-append (omega arith)) (omega arith))
-          c.put_schedule_rows.ensures.holds (simp length-append (omega arith)) (omega arith);
+          follows _ _ _ _ _ _ _ (follows _ _ _ _ _ _ _ (follows _ _ _ _ _ _ _ c.put_each-at.ensures.holds
+          c.put_each-at-2.ensures.holds (omega arith) (omega arith))
+          c.put_each-at-3.ensures.holds (simp length-append (omega arith)) (omega arith))
+          c.put_each.ensures.holds (simp length-append (omega arith)) (omega arith);
       fits = record {
-        prices = c.put_numbers.ensures.fits;
-        targets = c.put_numbers-2.ensures.fits;
-        numbers = c.put_row_numbers.ensures.fits;
-        rows = c.put_schedule_rows.ensures.fits;
+        prices = c.put_each-at.ensures.fits;
+        targets = c.put_each-at-2.ensures.fits;
+        numbers = c.put_each-at-3.ensures.fits;
+        rows = c.put_each.ensures.fits;
       };
     }

@@ -1,6 +1,6 @@
 use Rattle.std.proofs.Common.{◌≡◌, ℕ, get_or, ap, ◌∙◌, inl, inr, arith}
 use Rattle.std.proofs.lemmas.Bool.{cases_lt}
-use Rattle.market.specs.declared.prices.ProductPrices.{ProductPrices}
+use Rattle.market.specs.Products.{ProductPrices}
 use Rattle.market.specs.Tables.{no_prices, prices_at_lem}
 use Rattle.market.proofs.Beyond.{prices_beyond}
 use Rattle.market.proofs.Better.{better_never_cheaper}

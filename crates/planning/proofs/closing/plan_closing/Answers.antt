@@ -1,4 +1,4 @@
-use Rattle.std.proofs.Common.{◌≡◌, ℕ, ◌-◌, ◌≤◌, List, length, ℤ, ap, ◌∙◌, arith, w64, SFits, rules}
+use Rattle.std.proofs.Common.{◌≡◌, ℕ, ◌≤◌, List, length, ℤ, ap, ◌∙◌, arith, w64, SFits, rules}
 use Rattle.std.proofs.lemmas.Result.{err_from_is_err_and}
 use Rattle.std.proofs.lemmas.Int.{to_z-of_z}
 use Rattle.accounts.specs.declared.customer.Customer.{Customer}
@@ -6,15 +6,8 @@ use Rattle.accounts.specs.declared.supplier.Supplier.{Supplier}
 use Rattle.accounts.specs.declared.withdrawal.WithdrawalRow.{WithdrawalRow}
 use Rattle.law.specs.Verdicts.{closing_verdict}
 use Rattle.sharing.specs.Rule.{Rule}
-use Rattle.planning.proofs.Charging.{few_rows, all_shared, closing_told}
+use Rattle.planning.proofs.Charging.{all_shared, closing_told}
 use Rattle.planning.proofs.closing.plan_closing.Goals as goal
-
-pub slice_bounds-check_charge-end : goal.slice_bounds-check_charge-end
-slice_bounds-check_charge-end g c =
-    let e = ap length c.accounts-charged.ensures.all in
-    let few : length c.accounts-charged.result.now ≤ 256 = omega (arith, c.accounts-charged.ensures.few) in
-    let l = few_rows c.accounts-charged.result.now c.args.settled c.args.rows.now few c.in_ok-check_withdrawals.ensures in
-    omega (arith, c.share_out-shares.ensures.room)
 
 -- the verdict on the accounts is that on their books
 moved : (r : Rule) (xs xs' : List Supplier) (ys ys' : List Customer) (settled : ℕ) (grains : ℤ) (rows : List WithdrawalRow) → xs ≡ xs' → ys ≡ ys'
@@ -28,8 +21,7 @@ returns-in_err-check_charge g c =
     let all = ap length c.accounts-charged.ensures.all in
     let few : length c.accounts-charged.result.now ≤ 256 = omega (arith, c.accounts-charged.ensures.few) in
     let f : SFits w64 c.args.grains = search rules in
-    let n : length c.args.rows.now - 0 ≡ length c.args.rows.now = omega arith in
-    let e = closing_told c.accounts-charged.result.now c.args.settled c.args.rows.now few c.in_ok-check_withdrawals.ensures g.S.SharingRule.share c.args.grains _ (to_z-of_z w64 c.args.grains f) c.share_out-shares.result c.share_out-shares.ensures c.accounts-paid.result.now _ (length c.args.rows.now - 0) n c.in_ok-check_settle.ensures c.in_err-check_charge.ensures in
+    let e = closing_told c.accounts-charged.result.now c.args.settled c.args.rows.now few c.in_ok-check_withdrawals.ensures g.S.SharingRule.share c.args.grains _ (to_z-of_z w64 c.args.grains f) c.share_out-shares.result c.share_out-shares.ensures c.accounts-paid.result.now _ _ c.as_slice.ensures.value c.in_ok-check_settle.ensures c.in_err-check_charge.ensures in
     rw (p.1, p.2) (record { reply = e ∙ moved g.S.SharingRule.share _ _ _ _ c.args.settled c.args.grains c.args.rows.now c.accounts-paid.ensures.all c.accounts-charged.ensures.all; holds = tt })
 
 pub returns : goal.returns
@@ -37,8 +29,7 @@ returns g c =
     let all = ap length c.accounts-charged.ensures.all in
     let few : length c.accounts-charged.result.now ≤ 256 = omega (arith, c.accounts-charged.ensures.few) in
     let f : SFits w64 c.args.grains = search rules in
-    let n : length c.args.rows.now - 0 ≡ length c.args.rows.now = omega arith in
-    let e = closing_told c.accounts-charged.result.now c.args.settled c.args.rows.now few c.in_ok-check_withdrawals.ensures g.S.SharingRule.share c.args.grains _ (to_z-of_z w64 c.args.grains f) c.share_out-shares.result c.share_out-shares.ensures c.accounts-paid.result.now _ (length c.args.rows.now - 0) n c.in_ok-check_settle.ensures c.in_ok-check_charge.ensures in
+    let e = closing_told c.accounts-charged.result.now c.args.settled c.args.rows.now few c.in_ok-check_withdrawals.ensures g.S.SharingRule.share c.args.grains _ (to_z-of_z w64 c.args.grains f) c.share_out-shares.result c.share_out-shares.ensures c.accounts-paid.result.now _ _ c.as_slice.ensures.value c.in_ok-check_settle.ensures c.in_ok-check_charge.ensures in
     record {
       reply = e ∙ moved g.S.SharingRule.share _ _ _ _ c.args.settled c.args.grains c.args.rows.now c.accounts-paid.ensures.all c.accounts-charged.ensures.all;
       holds = all_shared c.accounts-charged.result.now c.args.settled c.args.rows.now few c.in_ok-check_withdrawals.ensures g.S.SharingRule.share c.args.grains _ (to_z-of_z w64 c.args.grains f) c.share_out-shares.result c.share_out-shares.ensures;

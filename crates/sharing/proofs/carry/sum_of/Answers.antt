@@ -2,7 +2,7 @@ use Rattle.std.proofs.Common.{◌≡◌, ℕ, ◌*◌, ◌^◌, ◌<◌, ◌≤�
 use Rattle.std.proofs.lemmas.List.{take_all}
 use Rattle.sharing.specs.Shares.{total}
 use Rattle.sharing.specs.SharedOut.{most_shares}
-use Rattle.sharing.proofs.Padded.{sum_more, sum_step}
+use Rattle.sharing.proofs.InOrder.{sum_more, sum_step}
 use Rattle.sharing.proofs.carry.sum_of.Goals as goal
 
 pub loop-share-preserved : goal.loop-share-preserved

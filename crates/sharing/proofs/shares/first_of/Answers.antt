@@ -1,6 +1,6 @@
 use Rattle.std.proofs.Common.{◌≡◌, ◌-◌, take}
 use Rattle.sharing.specs.SharedOut.{most_shares}
-use Rattle.sharing.proofs.Padded.{take_first, few_first}
+use Rattle.sharing.proofs.InOrder.{take_first, few_first}
 use Rattle.sharing.proofs.shares.first_of.Goals as goal
 
 pub returns : goal.returns

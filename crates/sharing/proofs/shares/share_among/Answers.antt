@@ -1,8 +1,8 @@
-use Rattle.std.proofs.Common.{◌≡◌, ◌≤◌, map, length, ℤ, sym, ap, ◌∙◌, subst, w64, SFits, to_z, of_z, rules}
+use Rattle.std.proofs.Common.{◌≡◌, ◌≤◌, List, map, length, ℤ, pos, ◌+ℤ◌, ◌*ℤ◌, sym, ap, ◌∙◌, subst, w64, SFits, to_z, of_z, rules}
 use mir.Syntax.{w128}
 use Rattle.std.proofs.lemmas.List.{length-map}
 use Rattle.std.proofs.lemmas.Int.{to_z-of_z}
-use Rattle.sharing.specs.Shares.{whole}
+use Rattle.sharing.specs.Shares.{grains_per_cent, whole, total}
 use Rattle.sharing.specs.SharedOut.{most_shares, SharedOut}
 use Rattle.sharing.proofs.Made.{made}
 use Rattle.sharing.proofs.shares.share_among.Given.{Over}
@@ -16,10 +16,12 @@ out g c =
     let grains = to_z-of_z w64 c.args.grains c.ranges.grains in
     let f : SFits w64 c.whole_cents.result = search rules in
     let few : length ws ≤ most_shares = rw length-map c.requires in
+    let kept : pos grains_per_cent *ℤ total c.shares_of-cents.result.items +ℤ c.carry_of-carry.result ≡ c.args.grains =
+    ap (λ (l : List ℤ). pos grains_per_cent *ℤ total l +ℤ c.carry_of-carry.result) (sym c.as_slice.ensures.value) ∙ c.carry_of-carry.ensures ∙ grains in
     made g.S.SharingRule.share g.met.S.SharingRule.fair c.args.grains ws c.ranges.grains few
     (to_z w64 (of_z w64 c.whole_cents.result)) (to_z-of_z w64 c.whole_cents.result f ∙ c.whole_cents.ensures ∙ ap whole grains)
     c.shares_of-cents.result c.shares_of-cents.ensures
-    c.carry_of-carry.result (c.carry_of-carry.ensures ∙ grains)
+    c.carry_of-carry.result kept
 
 -- the carry, widened
 wide : (g : Over) (c : goal.After-carry_of-carry g) → to_z w128 (of_z w128 c.carry_of-carry.result) ≡ c.carry_of-carry.result

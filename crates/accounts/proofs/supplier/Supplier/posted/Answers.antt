@@ -1,6 +1,6 @@
 use Rattle.std.proofs.Common.{◌≡◌, ℤ, refl, ap, ◌∙◌, w64, SFits, to_z, of_z, rules}
 use Rattle.std.proofs.lemmas.Int.{to_z-of_z}
-use Rattle.market.specs.declared.reserves.Reserves.{Reserves}
+use Rattle.market.specs.Products.{Reserves}
 use Rattle.accounts.specs.declared.supplier.Supplier.{Supplier}
 use Rattle.accounts.specs.declared.posting.Terms.{Terms}
 use Rattle.accounts.specs.Ranges.{amount_fits_lem}

@@ -1,9 +1,5 @@
-use Rattle.std.proofs.Common.{take, rules}
 use Rattle.curves.proofs.Judging.{held_curve}
 use Rattle.curves.proofs.curve.Curve.steps.Goals as goal
 
-pub returns : goal.returns
-returns c = record {
-  value = search rules;
-  law = held_curve _ (take c.args.self.now.count c.args.self.now.steps) (search rules) c.args.self.now.sound;
-}
+pub returns-clause-law : goal.returns-clause-law
+returns-clause-law c = held_curve _ c.args.self.now.steps.items c.as_slice.ensures.value c.args.self.now.sound

@@ -1,16 +1,16 @@
-use Rattle.std.proofs.Common.{length, ap, arith}
-use Rattle.maps.proofs.Loading.{accepted, falls_alike, slots_alike, same_market}
+use Rattle.maps.proofs.Loading.{accepted, as_many, same_itself}
 use Rattle.maps.proofs.loaded_map.LoadedMap.load.Goals as goal
 
 pub invariant_of-self : goal.invariant_of-self
 invariant_of-self c =
-    let a = accepted c.args.locations c.args.parents.now c.args.masks.now c.in_ok-check_arrays.ensures in
-    let f = falls_alike _ _ _ c.args.masks.now c.padded.ensures c.padded-2.ensures c.args.locations a.falls in
-    let s = slots_alike c.padded.result _ _ _ c.padded.ensures c.padded-2.ensures c.args.locations in
-    record { some = a.some; few = a.few; falls = f; asks = omega (arith, ap length s, a.asks) }
+    let told = c.in_ok-places.ensures in
+    let a = accepted c.args.locations c.args.parents.now c.args.masks.now told.reply in
+    let n = as_many c.in_ok-places.places.items c.args.parents.now c.args.locations told.parents a.parents in
+    record { some = rw n a.some; few = rw n a.few; falls = rw (n, told.parents) a.falls; asks = rw (n, told.masks) a.asks }
 
-pub returns : goal.returns
-returns c = record {
-  reply = c.in_ok-check_arrays.ensures;
-  holds = same_market _ _ _ _ c.padded.ensures c.padded-2.ensures c.args.locations;
-}
+pub returns-clause-holds : goal.returns-clause-holds
+returns-clause-holds c =
+    let told = c.in_ok-places.ensures in
+    let a = accepted c.args.locations c.args.parents.now c.args.masks.now told.reply in
+    let n = as_many c.in_ok-places.places.items c.args.parents.now c.args.locations told.parents a.parents in
+    rw (n, told.parents, told.masks) (same_itself _)

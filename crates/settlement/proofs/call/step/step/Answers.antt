@@ -1,42 +1,77 @@
+use Rattle.std.proofs.Common.{◌≡◌, refl, false, rules}
 use Rattle.books.specs.Books.{suppliers, customers, room}
-use Rattle.curves.specs.Book.{curves_of}
-use Rattle.law.proofs.Steps.{kept_after}
-use Rattle.settlement.specs.Course.{state}
-use Rattle.settlement.specs.declared.call.Call.TheVariants.{EnrolSupplier, EnrolCustomer, Open, Clear, Interval, Close, Void}
-use Rattle.settlement.proofs.Found.{called}
+use Rattle.settlement.proofs.Found.{taken, has, at_wrong_stage}
 use Rattle.settlement.proofs.call.step.step.Goals as goal
 
-pub returns-in-EnrolSupplier : goal.returns-in-EnrolSupplier
-returns-in-EnrolSupplier g c =
-    let one = called (g.M.LocationMap.market c.args.map.now) g.S.SharingRule.share (state c.args.ledger (suppliers c.args.suppliers.now) (customers c.args.customers.now) (room c.args.suppliers.now) (room c.args.customers.now)) (curves_of c.args.curves.now) (EnrolSupplier c.in-EnrolSupplier.new) c.args.call c.in-EnrolSupplier.is _ _ (c.enrol_supplier.ensures g.S.SharingRule.share (customers c.args.customers.now) (room c.args.customers.now)) in
-    record { step = one; law = kept_after (g.M.LocationMap.market c.args.map.now) (g.met.M.LocationMap.lawful c.args.map.now) g.S.SharingRule.share g.met.S.SharingRule.fair _ _ _ _ one }
+pub returns-in-Rest-EnrolSupplier : goal.returns-in-Rest-EnrolSupplier
+returns-in-Rest-EnrolSupplier g c =
+    taken (g.M.LocationMap.market c.args.house.now.map.now) (g.met.M.LocationMap.lawful c.args.house.now.map.now) g.S.SharingRule.share g.met.S.SharingRule.fair c.args.house.now (record { map = refl; curves = refl }) c.in-Rest-EnrolSupplier.is-0 c.in-Rest-EnrolSupplier.is-1
+    (c.enrol_supplier-done.ensures g.S.SharingRule.share (customers c.args.house.now.customers) (room c.args.house.now.customers))
 
-pub returns-in-EnrolCustomer : goal.returns-in-EnrolCustomer
-returns-in-EnrolCustomer g c =
-    let one = called (g.M.LocationMap.market c.args.map.now) g.S.SharingRule.share (state c.args.ledger (suppliers c.args.suppliers.now) (customers c.args.customers.now) (room c.args.suppliers.now) (room c.args.customers.now)) (curves_of c.args.curves.now) (EnrolCustomer c.in-EnrolCustomer.number) c.args.call c.in-EnrolCustomer.is _ _ (c.enrol_customer.ensures (g.M.LocationMap.market c.args.map.now) g.S.SharingRule.share (suppliers c.args.suppliers.now) (room c.args.suppliers.now)) in
-    record { step = one; law = kept_after (g.M.LocationMap.market c.args.map.now) (g.met.M.LocationMap.lawful c.args.map.now) g.S.SharingRule.share g.met.S.SharingRule.fair _ _ _ _ one }
+pub returns-in-Rest-EnrolCustomer : goal.returns-in-Rest-EnrolCustomer
+returns-in-Rest-EnrolCustomer g c =
+    taken (g.M.LocationMap.market c.args.house.now.map.now) (g.met.M.LocationMap.lawful c.args.house.now.map.now) g.S.SharingRule.share g.met.S.SharingRule.fair c.args.house.now (record { map = refl; curves = refl }) c.in-Rest-EnrolCustomer.is-0 c.in-Rest-EnrolCustomer.is-1
+    (c.enrol_customer-done.ensures (g.M.LocationMap.market c.args.house.now.map.now) g.S.SharingRule.share (suppliers c.args.house.now.suppliers) (room c.args.house.now.suppliers))
 
-pub returns-in-Open : goal.returns-in-Open
-returns-in-Open g c =
-    let one = called (g.M.LocationMap.market c.args.map.now) g.S.SharingRule.share (state c.args.ledger (suppliers c.args.suppliers.now) (customers c.args.customers.now) (room c.args.suppliers.now) (room c.args.customers.now)) (curves_of c.args.curves.now) (Open c.in-Open.hour) c.args.call c.in-Open.is _ _ (c.open.ensures (g.M.LocationMap.market c.args.map.now) g.S.SharingRule.share (suppliers c.args.suppliers.now) (customers c.args.customers.now) (room c.args.suppliers.now) (room c.args.customers.now)) in
-    record { step = one; law = kept_after (g.M.LocationMap.market c.args.map.now) (g.met.M.LocationMap.lawful c.args.map.now) g.S.SharingRule.share g.met.S.SharingRule.fair _ _ _ _ one }
+pub returns-in-Ok : goal.returns-in-Ok
+returns-in-Ok g c =
+    taken (g.M.LocationMap.market c.args.house.now.map.now) (g.met.M.LocationMap.lawful c.args.house.now.map.now) g.S.SharingRule.share g.met.S.SharingRule.fair c.args.house.now (record { map = refl; curves = refl }) c.in-Rest-Open.is-0 c.in-Rest-Open.is-1
+    (c.in-Ok.ensures (g.M.LocationMap.market c.args.house.now.map.now) g.S.SharingRule.share (suppliers c.args.house.now.suppliers) (customers c.args.house.now.customers) (room c.args.house.now.suppliers) (room c.args.house.now.customers))
 
-pub returns-in-Clear : goal.returns-in-Clear
-returns-in-Clear g c =
-    let one = called (g.M.LocationMap.market c.args.map.now) g.S.SharingRule.share (state c.args.ledger (suppliers c.args.suppliers.now) (customers c.args.customers.now) (room c.args.suppliers.now) (room c.args.customers.now)) (curves_of c.args.curves.now) (Clear c.in-Clear.prices c.in-Clear.targets c.in-Clear.rows) c.args.call c.in-Clear.is _ _ (c.clear.ensures g.S.SharingRule.share (customers c.args.customers.now) (room c.args.customers.now)) in
-    record { step = one; law = kept_after (g.M.LocationMap.market c.args.map.now) (g.met.M.LocationMap.lawful c.args.map.now) g.S.SharingRule.share g.met.S.SharingRule.fair _ _ _ _ one }
+pub returns-in-Err : goal.returns-in-Err
+returns-in-Err g c =
+    taken (g.M.LocationMap.market c.args.house.now.map.now) (g.met.M.LocationMap.lawful c.args.house.now.map.now) g.S.SharingRule.share g.met.S.SharingRule.fair c.args.house.now (record { map = refl; curves = refl }) c.in-Rest-Open.is-0 c.in-Rest-Open.is-1
+    (c.in-Err.ensures (g.M.LocationMap.market c.args.house.now.map.now) g.S.SharingRule.share (suppliers c.args.house.now.suppliers) (customers c.args.house.now.customers) (room c.args.house.now.suppliers) (room c.args.house.now.customers))
 
-pub returns-in-Interval : goal.returns-in-Interval
-returns-in-Interval g c =
-    let one = called (g.M.LocationMap.market c.args.map.now) g.S.SharingRule.share (state c.args.ledger (suppliers c.args.suppliers.now) (customers c.args.customers.now) (room c.args.suppliers.now) (room c.args.customers.now)) (curves_of c.args.curves.now) (Interval c.in-Interval.seconds c.in-Interval.prices c.in-Interval.targets c.in-Interval.rows) c.args.call c.in-Interval.is _ _ (c.interval.ensures g.S.SharingRule.share (customers c.args.customers.now) (room c.args.customers.now)) in
-    record { step = one; law = kept_after (g.M.LocationMap.market c.args.map.now) (g.met.M.LocationMap.lawful c.args.map.now) g.S.SharingRule.share g.met.S.SharingRule.fair _ _ _ _ one }
+pub returns-in-Ok-clear : goal.returns-in-Ok-clear
+returns-in-Ok-clear g c =
+    taken (g.M.LocationMap.market c.args.house.now.map.now) (g.met.M.LocationMap.lawful c.args.house.now.map.now) g.S.SharingRule.share g.met.S.SharingRule.fair c.args.house.now (record { map = refl; curves = refl }) c.in-Opened-Clear.is-0 c.in-Opened-Clear.is-1
+    (c.in-Ok-clear.ensures g.S.SharingRule.share (customers c.args.house.now.customers) (room c.args.house.now.customers))
 
-pub returns-in-Close : goal.returns-in-Close
-returns-in-Close g c =
-    let one = called (g.M.LocationMap.market c.args.map.now) g.S.SharingRule.share (state c.args.ledger (suppliers c.args.suppliers.now) (customers c.args.customers.now) (room c.args.suppliers.now) (room c.args.customers.now)) (curves_of c.args.curves.now) (Close c.in-Close.rows) c.args.call c.in-Close.is _ _ (c.close.ensures (g.M.LocationMap.market c.args.map.now)) in
-    record { step = one; law = kept_after (g.M.LocationMap.market c.args.map.now) (g.met.M.LocationMap.lawful c.args.map.now) g.S.SharingRule.share g.met.S.SharingRule.fair _ _ _ _ one }
+pub returns-in-Err-clear : goal.returns-in-Err-clear
+returns-in-Err-clear g c =
+    taken (g.M.LocationMap.market c.args.house.now.map.now) (g.met.M.LocationMap.lawful c.args.house.now.map.now) g.S.SharingRule.share g.met.S.SharingRule.fair c.args.house.now (record { map = refl; curves = refl }) c.in-Opened-Clear.is-0 c.in-Opened-Clear.is-1
+    (c.in-Err-clear.ensures g.S.SharingRule.share (customers c.args.house.now.customers) (room c.args.house.now.customers))
 
-pub returns-in-Void : goal.returns-in-Void
-returns-in-Void g c =
-    let one = called (g.M.LocationMap.market c.args.map.now) g.S.SharingRule.share (state c.args.ledger (suppliers c.args.suppliers.now) (customers c.args.customers.now) (room c.args.suppliers.now) (room c.args.customers.now)) (curves_of c.args.curves.now) Void c.args.call c.in-Void.is _ _ (c.void.ensures (g.M.LocationMap.market c.args.map.now) g.S.SharingRule.share (customers c.args.customers.now) (room c.args.customers.now)) in
-    record { step = one; law = kept_after (g.M.LocationMap.market c.args.map.now) (g.met.M.LocationMap.lawful c.args.map.now) g.S.SharingRule.share g.met.S.SharingRule.fair _ _ _ _ one }
+pub returns-in-Cleared-Interval : goal.returns-in-Cleared-Interval
+returns-in-Cleared-Interval g c =
+    taken (g.M.LocationMap.market c.args.house.now.map.now) (g.met.M.LocationMap.lawful c.args.house.now.map.now) g.S.SharingRule.share g.met.S.SharingRule.fair c.args.house.now (record { map = refl; curves = refl }) c.in-Cleared-Interval.is-0 c.in-Cleared-Interval.is-1
+    (c.interval-done.ensures g.S.SharingRule.share (customers c.args.house.now.customers) (room c.args.house.now.customers))
+
+pub returns-in-Ok-close : goal.returns-in-Ok-close
+returns-in-Ok-close g c =
+    taken (g.M.LocationMap.market c.args.house.now.map.now) (g.met.M.LocationMap.lawful c.args.house.now.map.now) g.S.SharingRule.share g.met.S.SharingRule.fair c.args.house.now (record { map = refl; curves = refl }) c.in-Cleared-Close.is-0 c.in-Cleared-Close.is-1
+    (c.in-Ok-close.ensures (g.M.LocationMap.market c.args.house.now.map.now))
+
+pub returns-in-Err-close : goal.returns-in-Err-close
+returns-in-Err-close g c =
+    taken (g.M.LocationMap.market c.args.house.now.map.now) (g.met.M.LocationMap.lawful c.args.house.now.map.now) g.S.SharingRule.share g.met.S.SharingRule.fair c.args.house.now (record { map = refl; curves = refl }) c.in-Cleared-Close.is-0 c.in-Cleared-Close.is-1
+    (c.in-Err-close.ensures (g.M.LocationMap.market c.args.house.now.map.now))
+
+pub returns-in-Opened-Void : goal.returns-in-Opened-Void
+returns-in-Opened-Void g c =
+    taken (g.M.LocationMap.market c.args.house.now.map.now) (g.met.M.LocationMap.lawful c.args.house.now.map.now) g.S.SharingRule.share g.met.S.SharingRule.fair c.args.house.now (record { map = refl; curves = refl }) c.in-Opened-Void.is-0 c.in-Opened-Void.is-1
+    (c.void.ensures (g.M.LocationMap.market c.args.house.now.map.now) g.S.SharingRule.share (customers c.args.house.now.customers) (room c.args.house.now.customers))
+
+pub returns-in-Cleared-Void : goal.returns-in-Cleared-Void
+returns-in-Cleared-Void g c =
+    taken (g.M.LocationMap.market c.args.house.now.map.now) (g.met.M.LocationMap.lawful c.args.house.now.map.now) g.S.SharingRule.share g.met.S.SharingRule.fair c.args.house.now (record { map = refl; curves = refl }) c.in-Cleared-Void.is-0 c.in-Cleared-Void.is-1
+    (c.void-in-Cleared-Void.ensures (g.M.LocationMap.market c.args.house.now.map.now) g.S.SharingRule.share (customers c.args.house.now.customers) (room c.args.house.now.customers))
+
+pub returns-in_default : goal.returns-in_default
+returns-in_default g c =
+    let n : has c.args.ledger c.args.call ≡ false = search rules in
+    taken (g.M.LocationMap.market c.args.house.now.map.now) (g.met.M.LocationMap.lawful c.args.house.now.map.now) g.S.SharingRule.share g.met.S.SharingRule.fair c.args.house.now (record { map = refl; curves = refl }) refl refl
+    (at_wrong_stage (g.M.LocationMap.market c.args.house.now.map.now) g.S.SharingRule.share c.args.house.now c.args.ledger c.args.call n)
+
+pub returns-in_default-2 : goal.returns-in_default-2
+returns-in_default-2 g c =
+    let n : has c.args.ledger c.args.call ≡ false = search rules in
+    taken (g.M.LocationMap.market c.args.house.now.map.now) (g.met.M.LocationMap.lawful c.args.house.now.map.now) g.S.SharingRule.share g.met.S.SharingRule.fair c.args.house.now (record { map = refl; curves = refl }) refl refl
+    (at_wrong_stage (g.M.LocationMap.market c.args.house.now.map.now) g.S.SharingRule.share c.args.house.now c.args.ledger c.args.call n)
+
+pub returns-in_default-3 : goal.returns-in_default-3
+returns-in_default-3 g c =
+    let n : has c.args.ledger c.args.call ≡ false = search rules in
+    taken (g.M.LocationMap.market c.args.house.now.map.now) (g.met.M.LocationMap.lawful c.args.house.now.map.now) g.S.SharingRule.share g.met.S.SharingRule.fair c.args.house.now (record { map = refl; curves = refl }) refl refl
+    (at_wrong_stage (g.M.LocationMap.market c.args.house.now.map.now) g.S.SharingRule.share c.args.house.now c.args.ledger c.args.call n)

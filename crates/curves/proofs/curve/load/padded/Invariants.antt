@@ -1,5 +1,0 @@
-use Rattle.std.proofs.Common.{◌≡◌, length, take}
-use Rattle.curves.proofs.curve.load.padded.Given as goal
-
-abbrev pub invariant-loop-i : goal.invariant-loop-i
-invariant-loop-i l = (take l.i l.all ≡ take l.i l.steps) × (length l.all ≡ 8)
