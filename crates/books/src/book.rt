@@ -67,6 +67,8 @@ impl<'a, A: Account> Book<'a, A> {
         self.count = count + 1;
     }
 
+    // Two, as `change_all` and `change_rows`, which they call: another definition is promised of two lists than of one.
+
     /// Changes every account.
     pub(crate) fn change<C: Fn(&A) -> A>(&mut self, change: C)
         requires { C.IsAlwaysCallable change }

@@ -1,4 +1,5 @@
 //! The end of an hour for customers: each is charged its share.
+// That the table and its room stay is said of each write: it is between before and after, which no invariant can say.
 ghost use Rattle.std.specs.Prelude.{◌≡◌};
 ghost use Rattle.accounts.specs.Posting.{chargeable};
 ghost use Rattle.faults.specs.declared.fault.Fault.TheVariants.{AccountRange};

@@ -1,4 +1,5 @@
 //! Posting a schedule to the suppliers of a book, in two passes: a check of every row, and the write.
+// That the table and its room stay is said of each write: it is between before and after, which no invariant can say.
 ghost use Rattle.std.specs.Prelude.{◌≡◌};
 ghost use Rattle.accounts.specs.Posting.{stays};
 ghost use Rattle.accounts.specs.Terms.{post_by};

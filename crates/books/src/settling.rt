@@ -1,4 +1,5 @@
 //! The end of an hour for suppliers: settling when it closes, forgetting when it is voided.
+// That the table and its room stay is said of each write: it is between before and after, which no invariant can say.
 ghost use Rattle.std.specs.Prelude.{◌≡◌, map};
 ghost use Rattle.accounts.specs.Posting.{settles, forget};
 ghost use Rattle.faults.specs.declared.fault.Fault.TheVariants.{AccountRange};

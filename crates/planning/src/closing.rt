@@ -45,8 +45,8 @@ fn net_of(row: WithdrawalRow) -> u64
     row.net()
 }
 
-/// All net withdrawals together. `total_of` does not tell that 64 bits are enough: only a row that is
-/// read shows how small it is.
+/// All net withdrawals together.
+// Tried over `total_of`: the proof that 64 bits are enough did not close, since only a row that is read shows how small it is.
 fn total_net(rows: &[WithdrawalRow]) -> u64
     requires { length rows.now ≤ 256 }
     ensures { result ≡ sum (nets rows.now) }

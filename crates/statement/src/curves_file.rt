@@ -53,6 +53,7 @@ fn curve_book(bytes: &[u8]) -> Result<CurveBook, Fault>
 pub(crate) fn read_curves(rt: &HostRuntime) -> Result<Result<CurveBook, Fault>, Problem>
     ensures { IfOk result (λ book. RefusedBy 51 book) }
 {
+    // Memory of a fixed size, for a file of any length.
     let mut bytes = [0; MOST_BYTES];
     let length = read_front(rt, &mut bytes).map_err(Problem::Curves)?;
     Ok(curve_book(&bytes[..length]))

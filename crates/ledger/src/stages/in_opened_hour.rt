@@ -60,6 +60,7 @@ impl Opened {
     }
 
     /// Gives the hour up: what it brought is forgotten.
+    // Not one with a cleared hour's: each is the step of its own stage, and two lines.
     pub fn void(self, suppliers: &mut Book<'_, Supplier>) -> Rest
         ensures { (m : Market) (rule : Rule) (ys : List Custom) (q : ℕ) → Step m rule
             (opened_state self (enlisted suppliers.old) ys (room suppliers.old) q)

@@ -17,7 +17,7 @@ fn is_wanted(places: &[Place], slot: usize) -> bool
 
 /// How many requirements the locations have.
 // As `(0..3 * places.len()).filter(..).count()` it was tried: the proof did not close.
-pub fn count_wanted(places: &[Place]) -> usize
+pub(crate) fn count_wanted(places: &[Place]) -> usize
     requires { length places.now ≤ 10 }
     ensures { result ≡ length (requirement_slots (length places.now) (masks_of places.now)) }
 {
@@ -32,7 +32,7 @@ pub fn count_wanted(places: &[Place]) -> usize
 
 /// The slot of a requirement, if there are so many.
 // As `(0..3 * places.len()).filter(..).nth(requirement)` it was tried: the proof did not close.
-pub fn slot_of(places: &[Place], requirement: usize) -> Option<usize>
+pub(crate) fn slot_of(places: &[Place], requirement: usize) -> Option<usize>
     requires { length places.now ≤ 10 }
     ensures { result ≡ slice_get (requirement_slots (length places.now) (masks_of places.now)) requirement }
 {
