@@ -31,7 +31,7 @@ accepted m r curves offset s s' e v noted bytes ok step foretold told = record {
 
 -- the lines of a closing, by what the ledger and the house show after it
 pub shown : {M : Type 0} (n : Noted) (l : Ledger) (h : House M) (carry : ℤ) → carry ≡ carry_of_lem l
-    → texts (closing_lines n.hour n.paid.items (suppliers h.suppliers) n.charged.items (customers h.customers) carry) ≡ texts (noted_lines (Some n) (state_of l h))
-shown n (Rest l) h carry e = ap (λ k. texts (closing_lines n.hour n.paid.items (suppliers h.suppliers) n.charged.items (customers h.customers) k)) e
-shown n (Opened l) h carry e = ap (λ k. texts (closing_lines n.hour n.paid.items (suppliers h.suppliers) n.charged.items (customers h.customers) k)) e
-shown n (Cleared l) h carry e = ap (λ k. texts (closing_lines n.hour n.paid.items (suppliers h.suppliers) n.charged.items (customers h.customers) k)) e
+    → texts (closing_lines n.hour n.paid.now (suppliers h.suppliers) n.charged.now (customers h.customers) carry) ≡ texts (noted_lines (Some n) (state_of l h))
+shown n (Rest l) h carry e = ap (λ k. texts (closing_lines n.hour n.paid.now (suppliers h.suppliers) n.charged.now (customers h.customers) k)) e
+shown n (Opened l) h carry e = ap (λ k. texts (closing_lines n.hour n.paid.now (suppliers h.suppliers) n.charged.now (customers h.customers) k)) e
+shown n (Cleared l) h carry e = ap (λ k. texts (closing_lines n.hour n.paid.now (suppliers h.suppliers) n.charged.now (customers h.customers) k)) e

@@ -48,7 +48,7 @@ lines_of offset s a (Ok u) s' =
 -- the lines of an accepted call that left s', by what was noted before it
 abbrev pub noted_lines : Option Noted → State → List Line
 noted_lines None s' = []
-noted_lines (Some n) s' = closing_lines n.hour n.paid.items s'.suppliers n.charged.items s'.customers s'.carry
+noted_lines (Some n) s' = closing_lines n.hour n.paid.now s'.suppliers n.charged.now s'.customers s'.carry
 
 -- if a call that finds the state s is accepted, what was noted before it gives its lines
 abbrev pub Foretold : State → Args → Option Noted → Type 0

@@ -22,7 +22,7 @@ use sharing::SharingRule;
 /// runs holds after this one.
 pub fn advance<M: LocationMap, S: SharingRule>(
     ledger: Ledger,
-    house: &mut House<'_, M>,
+    house: &mut House<'_, '_, '_, M>,
     reader: &mut Reader<'_>,
     out: &mut [u8; LINES_ROOM],
 ) -> (Ledger, Progress)

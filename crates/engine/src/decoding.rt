@@ -1,15 +1,15 @@
 //! A record as a step of the ledger.
 ghost use Rattle.std.specs.Prelude.{◌≡◌, ◌≤◌, length, replicate};
 ghost use Rattle.curves.specs.Book.{curves_of};
-ghost use Rattle.feed.specs.Entries.{Sized, SheetSized};
-ghost use Rattle.feed.specs.Reading.{says, rows_of, sheet_of};
+ghost use Rattle.feed.specs.Entries.{Sized, SheetSized, closing};
+ghost use Rattle.feed.specs.Reading.{says, rows_of, sheet_of, withdrawals_of};
 ghost use Rattle.law.specs.Run.{Step};
 ghost use Rattle.settlement.specs.Course.{state_of, SameRules};
 ghost use Rattle.engine.specs.Asking.{asks};
 
 use accounts::{ScheduleRow, ScheduleSheet, WithdrawalRow};
 use faults::Fault;
-use feed::{Record, Row, Rows, Sheet};
+use feed::{Record, Row, Rows, Sheet, WithdrawalRows};
 use maps::LocationMap;
 use settlement::{Call, House, Ledger, step};
 use sharing::SharingRule;
@@ -63,10 +63,29 @@ impl SheetRoom {
     }
 }
 
+/// Closes the hour by rows of the feed.
+// A function of its own: in an arm of `apply` its room would be blanked for every record.
+fn close<M: LocationMap, S: SharingRule>(
+    ledger: Ledger,
+    house: &mut House<'_, '_, '_, M>,
+    rows: &WithdrawalRows<'_>,
+) -> (Ledger, Result<(), Fault>)
+    requires { Sized (closing (withdrawals_of rows.now)) }
+    ensures step { Step (M.LocationMap.market house.old.map.now) S.SharingRule.share
+        (state_of ledger house.old)
+        (asks (curves_of house.old.curves.now) (closing (withdrawals_of rows.now)))
+        result.1
+        (state_of result.0 house.new) }
+    ensures rules { SameRules house.old house.new }
+{
+    let mut room = [WithdrawalRow::default(); 256];
+    step::<M, S>(ledger, house, Call::Close(decode(rows, &mut room)))
+}
+
 /// Does what the record asks for, or refuses and alters nothing.
 pub(crate) fn apply<M: LocationMap, S: SharingRule>(
     ledger: Ledger,
-    house: &mut House<'_, M>,
+    house: &mut House<'_, '_, '_, M>,
     request: Record<'_>,
 ) -> (Ledger, Result<(), Fault>)
     requires { Sized (says request) }
@@ -89,10 +108,7 @@ pub(crate) fn apply<M: LocationMap, S: SharingRule>(
             let mut room = SheetRoom::new();
             step::<M, S>(ledger, house, Call::Interval(seconds, room.decode(&sheet)))
         }
-        Record::Close(rows) => {
-            let mut room = [WithdrawalRow::default(); 256];
-            step::<M, S>(ledger, house, Call::Close(decode(&rows, &mut room)))
-        }
+        Record::Close(rows) => close::<M, S>(ledger, house, &rows),
         Record::Void => step::<M, S>(ledger, house, Call::Void),
     }
 }

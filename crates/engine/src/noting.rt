@@ -1,61 +1,78 @@
 //! What is noted before a closing, so that its lines can tell what it added.
-ghost use Rattle.std.specs.Prelude.{◌≡◌, ◌≤◌, option_map, length, map, drop};
+ghost use Rattle.std.specs.Prelude.{◌≡◌, ◌≤◌, option_map, length, map, take, drop};
 ghost use Rattle.books.specs.Books.{suppliers as enlisted, customers as customed};
 ghost use Rattle.lines.specs.Texts.{texts};
 ghost use Rattle.settlement.specs.Course.{state_of};
 ghost use Rattle.engine.specs.Telling.{supplier_cents, customer_cents, noted_lines};
 
 use accounts::Account;
-use bounded::Bounded;
 use lines::{LINES_ROOM, write_closing};
 use settlement::{House, Ledger};
 
 /// What the lines of a closing tell besides what it leaves: the hour, and the cents that each account had
 /// before.
-#[derive(Drop)]
-pub(crate) struct Noted {
+// The cents lie in room that is lent: lists of so many by value would be copied for every closing.
+#[derive(Clone, Copy)]
+pub(crate) struct Noted<'n> {
     hour: u32,
-    paid: Bounded<i64, 128>,
-    charged: Bounded<i64, 256>,
+    paid: &'n [i64],
+    charged: &'n [i64],
 }
 
-/// The cents of each account, as many as there is room for.
-fn cents_of<A: Account, const N: usize>(accounts: &[A]) -> Bounded<i64, N>
-    ensures { length accounts.now ≤ N → result.items ≡ map A.Account.money accounts.now }
+/// Writes the cents of each account to the front of the room.
+// Counted by hand: of what `iter_mut` writes beside another list a proof knows nothing.
+fn write_cents<A: Account>(accounts: &[A], room: &mut [i64])
+    requires { length accounts.now ≤ length room.old }
+    ensures { take (length accounts.now) room.new ≡ map A.Account.money accounts.now }
 {
-    let mut noted = Bounded::empty();
-    for account in accounts {
-        if noted.push(account.cents()).is_err() {
-            break;
-        }
+    for i in 0..accounts.len() {
+        room[i] = accounts[i].cents();
     }
-    noted
 }
 
-impl Noted {
+/// The cents of each account, noted at the front of the room.
+fn note<'n, A: Account>(accounts: &[A], room: &'n mut [i64]) -> &'n [i64]
+    requires { length accounts.now ≤ length room.old }
+    ensures { result.now ≡ map A.Account.money accounts.now }
+{
+    write_cents(accounts, room);
+    &room[..accounts.len()]
+}
+
+impl<'n> Noted<'n> {
     /// What has to be noted before the hour in hand is closed.
-    pub(crate) fn before<M>(hour: u32, house: &House<'_, M>) -> Noted
+    pub(crate) fn before<M>(
+        hour: u32,
+        house: &House<'_, '_, '_, M>,
+        paid: &'n mut [i64; 128],
+        charged: &'n mut [i64; 256],
+    ) -> Noted<'n>
         ensures hour { result.hour ≡ hour }
-        ensures paid { result.paid.items ≡ supplier_cents (enlisted house.now.suppliers) }
-        ensures charged { result.charged.items ≡ customer_cents (customed house.now.customers) }
+        ensures paid { result.paid.now ≡ supplier_cents (enlisted house.now.suppliers) }
+        ensures charged { result.charged.now ≡ customer_cents (customed house.now.customers) }
     {
         Noted {
             hour,
-            paid: cents_of(house.suppliers.accounts()),
-            charged: cents_of(house.customers.accounts()),
+            paid: note(house.suppliers.accounts(), paid),
+            charged: note(house.customers.accounts(), charged),
         }
     }
 
     /// The lines of what the closing left, at the end of the buffer. Answers where they begin.
-    fn tell<M>(&self, ledger: &Ledger, house: &House<'_, M>, out: &mut [u8; LINES_ROOM]) -> usize
+    fn tell<M>(
+        &self,
+        ledger: &Ledger,
+        house: &House<'_, '_, '_, M>,
+        out: &mut [u8; LINES_ROOM],
+    ) -> usize
         ensures { drop result out.new ≡ texts (noted_lines (Some self.now) (state_of ledger.now house.now)) }
     {
         write_closing(
             out,
             self.hour,
-            self.paid.as_slice(),
+            self.paid,
             &house.suppliers,
-            self.charged.as_slice(),
+            self.charged,
             &house.customers,
             ledger.carry(),
         )
@@ -64,9 +81,9 @@ impl Noted {
 
 /// The lines of an accepted record, by what was noted before it if it is a closing. Answers where they begin.
 pub(crate) fn tell_accepted<M>(
-    noted: Option<&Noted>,
+    noted: Option<&Noted<'_>>,
     ledger: &Ledger,
-    house: &House<'_, M>,
+    house: &House<'_, '_, '_, M>,
     out: &mut [u8; LINES_ROOM],
 ) -> usize
     ensures { drop result out.new ≡ texts (noted_lines (option_map (λ n. n.now) noted.entry) (state_of ledger.now house.now)) }

@@ -26,6 +26,8 @@ impl Tail<'_> {
     ghost use Rattle.lines.specs.declared.line.Line.TheVariants.{Carried as carried, Refused as refused};
 
     /// The line of an account whose cents were `before` and are `after`.
+    // This and `line` are made in place, so that where the text begins need not be kept in memory for each byte.
+    #[inline(always)]
     pub(crate) fn amount(&mut self, side: Side, hour: u32, number: u32, before: i64, after: i64)
         requires { most_line ≤ self.old.start }
         ensures grown { Grown (amount_text (side_letter side) hour number (after -ℤ before)) self.old self.new }
@@ -63,6 +65,7 @@ impl Tail<'_> {
     }
 
     /// A line of any kind.
+    #[inline(always)]
     pub(crate) fn line(&mut self, line: Line)
         requires { most_line ≤ self.old.start }
         ensures grown { Grown (text line) self.old self.new }

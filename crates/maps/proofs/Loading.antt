@@ -1,15 +1,14 @@
 -- What an accepted load shows.
-use Rattle.std.proofs.Common.{◌≡◌, ℕ, ◌<◌, ◌≤◌, true, ◌&&◌, ltb, leb, List, length, get_or, sym, refl, ap, ◌∙◌, arith}
+use Rattle.std.proofs.Common.{◌≡◌, ℕ, ◌<◌, ◌≤◌, true, ltb, List, length, get_or, sym, refl, ap, ◌∙◌, arith}
 use Rattle.std.proofs.lemmas.Bool.Decides.{nat_tests}
 use Rattle.faults.specs.declared.fault.Fault.TheVariants.{MapArrays}
-use Rattle.sums.specs.Verdict.{accept}
+use Rattle.sums.specs.Verdict.{accept, every}
 use Rattle.sums.proofs.Verdicts.{both, wanted, every_held}
 use Rattle.maps.specs.Market.{Market, SameMarket}
-use Rattle.std.proofs.Math.ListN.{get_or-map}
 use Rattle.std.proofs.lemmas.List.{length-map}
 use Rattle.maps.specs.declared.place.Place.{Place}
-use Rattle.maps.specs.Places.{parents_of, masks_of}
-use Rattle.maps.specs.Tree.{requirement_slots, ParentsFall, map_verdict, sizes_fit, is_placed_lem, parent_fits}
+use Rattle.maps.specs.Places.{parents_of}
+use Rattle.maps.specs.Tree.{requirement_slots, ParentsFall, map_verdict, sizes_fit, is_placed_lem}
 
 pub record Accepted (count : ℕ) (ps ms : List ℕ) : Type 0 where
   pub some : 1 ≤ count
@@ -34,14 +33,11 @@ accepted count ps ms h =
       asks = grind (arith, nat_tests);
     }
 
--- a location by itself and by the arrays
-pub placed_at : (ps : List Place) (i : ℕ) → i < length ps
-    → is_placed_lem (parents_of ps) (masks_of ps) i
-    ≡ (parent_fits (get_or ps i (record { parent = 0; mask = 0 })).parent i && leb (get_or ps i (record { parent = 0; mask = 0 })).mask 7)
-placed_at ps i l =
-    let a = get_or-map (λ (p : Place). p.parent) ps i (record { parent = 0; mask = 0 }) in
-    let b = get_or-map (λ (p : Place). p.mask) ps i (record { parent = 0; mask = 0 }) in
-    rw (a, b)
+-- where each location is placed, the masks are of three bits
+pub three_bits : (ps ms : List ℕ) → accept ≡ every (is_placed_lem ps ms) MapArrays 0 (length ps) → length ms ≡ length ps → (k : ℕ) → k < length ms → get_or ms k 0 ≤ 7
+three_bits ps ms h e k l =
+    let p : is_placed_lem ps ms k ≡ true = every_held (is_placed_lem ps ms) MapArrays 0 (length ps) (sym h) k (omega arith) (omega arith) in
+    grind (arith, nat_tests)
 
 -- there are as many locations as parents
 pub as_many : (ps : List Place) (parents : List ℕ) (count : ℕ) → parents_of ps ≡ parents → length parents ≡ count → length ps ≡ count

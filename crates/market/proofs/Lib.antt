@@ -3,4 +3,3 @@ pub mod Better
 pub mod Beyond
 pub mod Tallying
 pub mod Within
-pub mod Made

@@ -8,7 +8,6 @@ ghost use Rattle.market.specs.Totals.{Totals, no_totals, added, AtMost, counted,
 
 use crate::{PerProduct, Reserves};
 use maps::{LocationMap, Product};
-use std::array;
 
 /// Something at a location, such as a supplier's account.
 pub trait Placed {
@@ -99,12 +98,10 @@ pub fn quantities<M: LocationMap, P: Placed, R: Scheduled>(
     ensures bound { (k : ℕ) → slice_index result k ≤ 48 * (2 ^ 32 * length places.now) }
 {
     let totals = totals_of(places, rows);
-    let requirements = map.requirements();
-    array::from_fn(|requirement| {
-        if requirement < requirements {
-            quantity_toward(map, &totals, requirement)
-        } else {
-            0
-        }
-    })
+    let mut table = [0; 32];
+    // Counted by hand: `array::from_fn` was tried, and what it makes is copied twice for each schedule.
+    for requirement in 0..map.requirements() {
+        table[requirement] = quantity_toward(map, &totals, requirement);
+    }
+    table
 }

@@ -4,7 +4,7 @@ ghost use Rattle.sharing.specs.SharedOut.{most_shares, SharedOut};
 
 use crate::carry::carry_of;
 use crate::grains::whole_cents;
-use crate::table::shares_of;
+use crate::table::give_shares;
 use crate::{Portion, SharingRule};
 use bounded::Bounded;
 
@@ -39,7 +39,8 @@ fn share_among<S: SharingRule, P: Portion>(grains: i64, parts: &[P]) -> Shares
     requires { length parts.now ≤ most_shares }
     ensures { SharedOut S.SharingRule.share grains (listed P.Portion.portion parts.now) result }
 {
-    let cents = shares_of::<S, P>(whole_cents(grains), parts);
+    let mut cents = Bounded::empty();
+    give_shares::<S, P>(whole_cents(grains), parts, &mut cents);
     let carry = carry_of(grains, cents.as_slice()) as i64;
     Shares { cents, carry }
 }

@@ -1,6 +1,6 @@
 //! The shares of parts, in their order.
 // That the parts are few is asked of each function: a struct around a slice, only for that, would be longer.
-ghost use Rattle.std.specs.Prelude.{◌≡◌, ◌≤◌, map as listed, length, pos, replicate, sum};
+ghost use Rattle.std.specs.Prelude.{◌≡◌, ◌≤◌, [], map as listed, length, pos, replicate, sum};
 ghost use Rattle.sharing.specs.Shares.{shares};
 ghost use Rattle.sharing.specs.SharedOut.{most_shares};
 
@@ -10,19 +10,22 @@ use crate::shares::MOST_SHARES;
 use crate::{Portion, SharingRule};
 use bounded::Bounded;
 
-/// The share of every part, in their order. All are 0 where the parts are too much together.
-pub(crate) fn shares_of<S: SharingRule, P: Portion>(
+/// Gives every part its share, in their order. All are 0 where the parts are too much together.
+// Into a list that is lent: one that is handed out is copied on the way, of a size that is worth a few shares.
+pub(crate) fn give_shares<S: SharingRule, P: Portion>(
     cents: i64,
     parts: &[P],
-) -> Bounded<i64, MOST_SHARES>
-    requires { length parts.now ≤ most_shares }
-    ensures { result.items ≡ shares S.SharingRule.share cents 0 (sum (listed P.Portion.portion parts.now)) (listed P.Portion.portion parts.now) }
+    given: &mut Bounded<i64, MOST_SHARES>,
+)
+    requires few { length parts.now ≤ most_shares }
+    requires none { given.old.items ≡ [] }
+    ensures { given.new.items ≡ shares S.SharingRule.share cents 0 (sum (listed P.Portion.portion parts.now)) (listed P.Portion.portion parts.now) }
 {
     let total = total_of(parts);
     if total <= MOST_PARTS as u128 {
-        shares_in_order::<S, P>(cents, total as u64, parts)
+        give_in_order::<S, P>(cents, total as u64, parts, given);
     } else {
-        no_shares(parts.len())
+        *given = no_shares(parts.len());
     }
 }
 
@@ -36,17 +39,18 @@ fn no_shares(count: usize) -> Bounded<i64, MOST_SHARES>
     Bounded::first_of(none)
 }
 
-/// The share of every part, where `total` is the sum of all.
-fn shares_in_order<S: SharingRule, P: Portion>(
+/// Gives every part its share, where `total` is the sum of all.
+fn give_in_order<S: SharingRule, P: Portion>(
     cents: i64,
     total: u64,
     parts: &[P],
-) -> Bounded<i64, MOST_SHARES>
+    given: &mut Bounded<i64, MOST_SHARES>,
+)
     requires few { length parts.now ≤ most_shares }
     requires whole { total ≡ sum (listed P.Portion.portion parts.now) }
-    ensures { result.items ≡ shares S.SharingRule.share cents 0 total (listed P.Portion.portion parts.now) }
+    requires none { given.old.items ≡ [] }
+    ensures { given.new.items ≡ shares S.SharingRule.share cents 0 total (listed P.Portion.portion parts.now) }
 {
-    let mut given = Bounded::empty();
     let mut before = 0;
     for item in parts {
         let part = item.portion();
@@ -54,5 +58,4 @@ fn shares_in_order<S: SharingRule, P: Portion>(
         let _ = given.push(S::share_of(cents, before, part, total));
         before += part;
     }
-    given
 }

@@ -61,7 +61,8 @@ pub(crate) fn read_curves(rt: &HostRuntime) -> Result<Result<CurveBook, Fault>, 
 
 /// The line of a file that is refused.
 fn refusal_line(room: &mut [u8; ROOM], fault: Fault) -> &[u8]
-    ensures { result.now ≡ text (refusal (told_of fault).number 0) }
+    requires { (told_of fault).number ≡ 51 }
+    ensures { result.now ≡ text (refusal 51 0) }
 {
     let line = Line::Refused {
         number: fault.number(),
@@ -75,7 +76,9 @@ fn refusal_line(room: &mut [u8; ROOM], fault: Fault) -> &[u8]
 }
 
 /// Writes the line of a file that is refused.
-pub(crate) fn refuse_curves(rt: &HostRuntime, fault: Fault) -> Result<(), Problem> {
+pub(crate) fn refuse_curves(rt: &HostRuntime, fault: Fault) -> Result<(), Problem>
+    requires { (told_of fault).number ≡ 51 }
+{
     rt.stdout()
         .write_all(refusal_line(&mut [0; ROOM], fault))
         .map_err(Problem::Output)

@@ -45,7 +45,7 @@ enum Ending {
 /// Where a feed is settled: the house, and where the lines of its records go.
 #[derive(Drop)]
 struct Desk<'a, W> {
-    house: House<'a, FixedMap>,
+    house: House<'a, 'a, 'a, FixedMap>,
     lines: [u8; LINES_ROOM],
     output: &'a mut W,
 }

@@ -41,12 +41,12 @@ impl<'a, R: Row> Rows<'a, R> {
     pub fn fill(&self, out: &mut [R]) -> usize
         ensures { Filled result (rows_of R.WIDTH R.row_at self.now) out.old out.new }
     {
-        let count = self.count().min(out.len());
+        // A copy of the list, and `unwrap` of a row that is known to be there: no row is tested for.
+        let rows = *self;
+        let count = rows.count().min(out.len());
         let places = &mut out[..count];
         for (i, place) in places.iter_mut().enumerate() {
-            if let Some(row) = self.at(i) {
-                *place = row;
-            }
+            *place = rows.at(i).unwrap();
         }
         count
     }

@@ -1,14 +1,13 @@
 //! Loading a map from its arrays.
-ghost use Rattle.std.specs.Prelude.{◌≡◌, ◌≤◌, length, IfOk, MatchResult};
-ghost use Rattle.sums.specs.Verdict.{told, want, every};
+ghost use Rattle.std.specs.Prelude.{◌≡◌, ◌≤◌, length, nat_lt, slice_index, EachIndex, MatchResult};
+ghost use Rattle.sums.specs.Verdict.{want, every};
 ghost use Rattle.faults.specs.declared.fault.Fault.TheVariants.{MapArrays};
 ghost use Rattle.maps.specs.Market.{SameMarket};
-ghost use Rattle.maps.specs.Tree.{map_verdict, sizes_fit, is_placed_lem, loaded_market};
+ghost use Rattle.maps.specs.Tree.{map_verdict, sizes_fit, is_placed_lem, requirement_slots, loaded_market};
 ghost use Rattle.maps.specs.Fixed.{fixed_market};
 ghost use Rattle.maps.specs.Loaded.{market_of};
 ghost use Rattle.maps.specs.Places.{parents_of, masks_of};
 
-use crate::loaded_map::slots::count_wanted;
 use crate::loaded_map::{LoadedMap, MOST_LOCATIONS};
 use crate::place::Place;
 use bounded::Bounded;
@@ -58,10 +57,13 @@ fn paired(parents: &[usize], masks: &[u8]) -> Bounded<Place, MOST_LOCATIONS>
 }
 
 /// The first location that may not be as it is, is refused.
-fn check_places(places: &[Place]) -> Result<(), Fault>
-    ensures { result ≡ every (is_placed_lem (parents_of places.now) (masks_of places.now)) MapArrays 0 (length places.now) }
+fn check_places(parents: &[usize], masks: &[u8]) -> Result<(), Fault>
+    requires { length masks.now ≡ length parents.now }
+    ensures { result ≡ every (is_placed_lem parents.now masks.now) MapArrays 0 (length parents.now) }
 {
-    for (location, place) in places.iter().enumerate() {
+    for (location, &parent) in parents.iter().enumerate() {
+        let mask = masks[location];
+        let place = Place { parent, mask };
         if !place.fits(location) {
             return Err(Fault::MapArrays { location });
         }
@@ -69,25 +71,26 @@ fn check_places(places: &[Place]) -> Result<(), Fault>
     Ok(())
 }
 
-/// The locations that the arrays describe, or which location is refused.
-fn places_of(
-    locations: usize,
-    parents: &[usize],
-    masks: &[u8],
-) -> Result<Bounded<Place, MOST_LOCATIONS>, Fault>
-    ensures reply { told result ≡ map_verdict locations parents.now masks.now }
-    ensures parents { IfOk result (λ b. parents_of b.items ≡ parents.now) }
-    ensures masks { IfOk result (λ b. masks_of b.items ≡ masks.now) }
+/// Whether some mask asks for a product. Each has three bits.
+fn some_asked(masks: &[u8]) -> bool
+    requires { EachIndex masks.now (λ k. slice_index masks.now k ≤ 7) }
+    ensures { result ≡ nat_lt 0 (length (requirement_slots (length masks.now) masks.now)) }
+{
+    masks.iter().any(|mask| *mask != 0)
+}
+
+/// The arrays make a map, or which location is refused.
+fn check_arrays(locations: usize, parents: &[usize], masks: &[u8]) -> Result<(), Fault>
+    ensures { result ≡ map_verdict locations parents.now masks.now }
 {
     check_sizes(locations, parents.len(), masks.len())?;
-    let places = paired(parents, masks);
-    check_places(places.as_slice())?;
-    if count_wanted(places.as_slice()) == 0 {
+    check_places(parents, masks)?;
+    if !some_asked(masks) {
         return Err(Fault::MapArrays {
             location: locations,
         });
     }
-    Ok(places)
+    Ok(())
 }
 
 impl LoadedMap {
@@ -113,7 +116,8 @@ impl LoadedMap {
         ensures reply { result ≡ map_verdict locations parents.now masks.now }
         ensures holds { MatchResult result (λ _. SameMarket (market_of self.new) (loaded_market locations parents.now masks.now)) (λ _. self.new ≡ self.old) }
     {
-        let places = places_of(locations, parents, masks)?;
+        check_arrays(locations, parents, masks)?;
+        let places = paired(parents, masks);
         *self = LoadedMap { places };
         Ok(())
     }

@@ -16,15 +16,16 @@ fn is_wanted(places: &[Place], slot: usize) -> bool
 }
 
 /// How many requirements the locations have.
-// As `(0..3 * places.len()).filter(..).count()` it was tried: the proof did not close.
 pub(crate) fn count_wanted(places: &[Place]) -> usize
     requires { length places.now ≤ 10 }
     ensures { result ≡ length (requirement_slots (length places.now) (masks_of places.now)) }
 {
     let mut found = 0;
-    for slot in 0..3 * places.len() {
-        if is_wanted(places, slot) {
-            found += 1;
+    for place in places {
+        for product in 0..3 {
+            if place.asks_for(product) {
+                found += 1;
+            }
         }
     }
     found

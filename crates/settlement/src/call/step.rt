@@ -22,7 +22,7 @@ const WRONG_STAGE: Fault = Fault::WrongStage { offset: 0 };
 /// books under this map and this rule, the law of all runs holds after this step.
 pub fn step<M: LocationMap, S: SharingRule>(
     ledger: Ledger,
-    house: &mut House<'_, M>,
+    house: &mut House<'_, '_, '_, M>,
     call: Call<'_>,
 ) -> (Ledger, Result<(), Fault>)
     ensures step { Step (M.LocationMap.market house.old.map.now) S.SharingRule.share

@@ -9,18 +9,18 @@ use Rattle.sharing.proofs.shares.share_among.Given.{Over}
 use Rattle.sharing.proofs.shares.share_among.Goals as goal
 
 out : (g : Over) (c : goal.After-carry_of-carry g)
-    → SharedOut g.S.SharingRule.share c.args.grains (map g.P.Portion.portion c.args.parts.now) (record { cents = c.shares_of-cents.result; carry = c.carry_of-carry.result })
+    → SharedOut g.S.SharingRule.share c.args.grains (map g.P.Portion.portion c.args.parts.now) (record { cents = c.give_shares.new.given; carry = c.carry_of-carry.result })
     × SFits w64 c.carry_of-carry.result
 out g c =
     let ws = map g.P.Portion.portion c.args.parts.now in
     let grains = to_z-of_z w64 c.args.grains c.ranges.grains in
     let f : SFits w64 c.whole_cents.result = search rules in
     let few : length ws ≤ most_shares = rw length-map c.requires in
-    let kept : pos grains_per_cent *ℤ total c.shares_of-cents.result.items +ℤ c.carry_of-carry.result ≡ c.args.grains =
+    let kept : pos grains_per_cent *ℤ total c.give_shares.new.given.items +ℤ c.carry_of-carry.result ≡ c.args.grains =
     ap (λ (l : List ℤ). pos grains_per_cent *ℤ total l +ℤ c.carry_of-carry.result) (sym c.as_slice.ensures.value) ∙ c.carry_of-carry.ensures ∙ grains in
     made g.S.SharingRule.share g.met.S.SharingRule.fair c.args.grains ws c.ranges.grains few
     (to_z w64 (of_z w64 c.whole_cents.result)) (to_z-of_z w64 c.whole_cents.result f ∙ c.whole_cents.ensures ∙ ap whole grains)
-    c.shares_of-cents.result c.shares_of-cents.ensures
+    c.give_shares.new.given c.give_shares.ensures
     c.carry_of-carry.result kept
 
 -- the carry, widened
@@ -34,4 +34,4 @@ pub returns : goal.returns
 returns g c =
     let o = out g c in
     let e : to_z w64 (of_z w64 (to_z w128 (of_z w128 c.carry_of-carry.result))) ≡ c.carry_of-carry.result = ap (λ (z : ℤ). to_z w64 (of_z w64 z)) (wide g c) ∙ to_z-of_z w64 c.carry_of-carry.result o.1 in
-    subst (λ (z : ℤ). SharedOut g.S.SharingRule.share c.args.grains (map g.P.Portion.portion c.args.parts.now) (record { cents = c.shares_of-cents.result; carry = z })) (sym e) o.0
+    subst (λ (z : ℤ). SharedOut g.S.SharingRule.share c.args.grains (map g.P.Portion.portion c.args.parts.now) (record { cents = c.give_shares.new.given; carry = z })) (sym e) o.0

@@ -2,7 +2,6 @@ use Rattle.std.proofs.Common.{refl, ap, sym, ◌∙◌, arith, rules}
 use Rattle.std.proofs.lemmas.List.{length-take}
 use Rattle.std.proofs.lemmas.Option.{same_Some}
 use Rattle.feed.proofs.Fills.{counted_at, written, filled}
-use Rattle.feed.proofs.parts.Rows.fill.Goals.{in-Some, in_default}
 use Rattle.feed.proofs.parts.Rows.fill.Goals as goal
 
 pub loop-i-preserved : goal.loop-i-preserved
@@ -11,12 +10,8 @@ loop-i-preserved g c =
     let read =
     c.at.ensures
     ∙ sym (counted_at row _ c.loop-i.i (row c.loop-i.i) (omega (arith, length-take c.min-count.result c.args.out.now)) refl) in
-    elim c.match-at.branch [
-      | in-Some w ↦ rw w.places-is
-          (written row c.loop-i.places 0 c.loop-i.i w.in-Some.row (omega arith)
-          (same_Some _ _ (sym w.in-Some.is ∙ read) ∙ ap row (omega arith)) c.loop-i.invariant)
-      | in_default w ↦ absurd (w.in_default.not-Some _ read)
-    ]
+    written row c.loop-i.places 0 c.loop-i.i c.unwrap.result (omega arith)
+    (same_Some _ _ (sym c.unwrap.ensures ∙ read) ∙ ap row (omega arith)) c.loop-i.invariant
 
 pub returns : goal.returns
 returns g c =

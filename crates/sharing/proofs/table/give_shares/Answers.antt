@@ -2,7 +2,7 @@ use Rattle.std.proofs.Common.{ℕ, ◌<◌, map, replicate, pos, sum, sym, ap, �
 use Rattle.std.proofs.lemmas.List.{length-map}
 use Rattle.sharing.specs.Rule.{most_parts}
 use Rattle.sharing.proofs.InOrder.{shares_none}
-use Rattle.sharing.proofs.table.shares_of.Goals as goal
+use Rattle.sharing.proofs.table.give_shares.Goals as goal
 
 pub returns-else-total : goal.returns-else-total
 returns-else-total g c =

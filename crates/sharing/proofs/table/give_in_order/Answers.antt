@@ -7,8 +7,8 @@ use Rattle.sharing.specs.Rule.{Rule}
 use Rattle.sharing.specs.SharedOut.{most_shares}
 use Rattle.sharing.specs.Shares.{shares}
 use Rattle.sharing.proofs.InOrder.{room_for, shares_more}
-use Rattle.sharing.proofs.table.shares_in_order.Given.{Over}
-use Rattle.sharing.proofs.table.shares_in_order.Goals as goal
+use Rattle.sharing.proofs.table.give_in_order.Given.{Over}
+use Rattle.sharing.proofs.table.give_in_order.Goals as goal
 
 -- the part that comes is its element of the parts
 part_is : (g : Over) (c : goal.After-push g) → c.portion-part.result ≡ get_or (map g.P.Portion.portion c.args.parts.now) c.loop-item.item-index 0

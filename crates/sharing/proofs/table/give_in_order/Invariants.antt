@@ -1,6 +1,6 @@
 use Rattle.std.proofs.Common.{◌≡◌, map, take, sum}
 use Rattle.sharing.specs.Shares.{shares}
-use Rattle.sharing.proofs.table.shares_in_order.Given as goal
+use Rattle.sharing.proofs.table.give_in_order.Given as goal
 
 abbrev pub invariant-loop-item : goal.invariant-loop-item
 invariant-loop-item g l =
