@@ -117,11 +117,8 @@ impl Claims {
 pub fn read_claims(rt: &HostRuntime) -> Result<Claims, Problem> {
     let heap = rt.alloc();
     let mut claims = Claims(Vec::new(heap));
-    let mut line = 0usize;
-    // Counted by hand: by `zip` or `enumerate`, which hand each line on in a pair, short lines take a third longer.
-    for text in rt.lines(heap) {
+    for (line, text) in (1usize..).zip(rt.lines(heap)) {
         let text = text?;
-        line = line.saturating_add(1);
         if is_silent(text.as_str()) {
             continue;
         }
