@@ -1,5 +1,8 @@
-//! Faults in plain words, one line each. What is written is tested, not proved.
+//! Faults in plain words, one line each. A line's words are not proved; the name of a layer is.
 #![tactic(auto)]
+
+ghost use Rattle.std.specs.Prelude.{◌≡◌};
+ghost use Rattle.fault_text.specs.Names.{name_of};
 
 use faults::{Fault, Layer};
 use std::fmt;
@@ -10,7 +13,9 @@ pub struct InWords(pub Fault);
 
 /// The name of a layer.
 // A word to be used as it is: a `Display` would only write it out.
-pub fn layer_name(layer: Layer) -> &'static str {
+pub fn layer_name(layer: Layer) -> &'static str
+    ensures { result.now ≡ name_of layer }
+{
     match layer {
         Layer::Feed => "feed",
         Layer::Book => "book",

@@ -90,7 +90,7 @@ impl Claims {
     }
 
     /// The refusal, with the line that is to blame where there is one.
-    pub fn blame(&self, fault: Fault, curves: &CurveBook) -> Problem {
+    pub(crate) fn blame(&self, fault: Fault, curves: &CurveBook) -> Problem {
         match fault {
             Fault::PriceOrTargetOutOfRange { requirement } => match self.0.get(requirement) {
                 Some(placed) => Problem::OutOfRange {
@@ -114,7 +114,7 @@ impl Claims {
 }
 
 /// Reads the claims from standard input; the first line that is none is refused.
-pub fn read_claims(rt: &HostRuntime) -> Result<Claims, Problem> {
+pub(crate) fn read_claims(rt: &HostRuntime) -> Result<Claims, Problem> {
     let heap = rt.alloc();
     let mut claims = Claims(Vec::new(heap));
     for (line, text) in (1usize..).zip(rt.lines(heap)) {

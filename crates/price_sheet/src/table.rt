@@ -6,7 +6,7 @@ use std::alloc::{AllocError, Global};
 const LOCATIONS: [&str; 5] = ["West", "East", "Southeast", "New York City", "Long Island"];
 
 /// The table, one location to a line, in cents per MW and hour.
-pub fn table_text(heap: Global, prices: &[ProductPrices; 16]) -> Result<String, AllocError> {
+pub(crate) fn table_text(heap: Global, prices: &[ProductPrices; 16]) -> Result<String, AllocError> {
     let mut text = String::from_str(heap, "Clearing prices in cents per MW and hour\n")?;
     text.push_str("location       thirty-minute    ten-minute      spinning\n")?;
     for (name, row) in LOCATIONS.iter().zip(prices) {
